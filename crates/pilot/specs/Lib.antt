@@ -1,0 +1,3 @@
+-- The definitions that the contracts of crate pilot cite.
+pub mod Bands
+pub mod Verdicts

@@ -1,0 +1,94 @@
+// The verdicts on a sample.
+use units::Millivolts;
+use crate::bands;
+
+ghost use mathlib.Core.Path.{_≡_};
+ghost use mathlib.Core.Bool.{_&&_, _||_, not};
+ghost use Rattle.pilot.specs.Verdicts.{sound, proven, diodeBad, verdictOf};
+
+// What is kept of a sample: its band, as a letter in ASCII or 0 for none, and the three verdicts.
+#[repr(C)]
+pub struct Verdict {
+    pub band: u8,
+    pub sound: bool,
+    pub proven: bool,
+    pub diodebad: bool,
+}
+
+fn all(a: bool, b: bool, c: bool) -> bool
+    ensures { λ r. ⌜ r ≡ a && (b && c) ⌝ }
+{
+    if a {
+        if b { c } else { false }
+    } else {
+        false
+    }
+}
+
+fn sound_by(between: bool, driven: bool, low: bool) -> bool
+    ensures { λ r. ⌜ r ≡ between && (not driven || low) ⌝ }
+{
+    if between {
+        if driven { low } else { true }
+    } else {
+        false
+    }
+}
+
+fn diode_bad_by(driven: bool, bcd: bool, low: bool) -> bool
+    ensures { λ r. ⌜ r ≡ driven && (bcd && not low) ⌝ }
+{
+    if driven {
+        if bcd { !low } else { false }
+    } else {
+        false
+    }
+}
+
+// Sound: high strictly between 1,500 and 7,500 and, if the wave is driven, low in the low band.
+pub fn sound(wave: u32, high: Millivolts, low: Millivolts) -> bool
+    ensures { λ r. ⌜ r ≡ sound wave (high .0) (low .0) ⌝ }
+{
+    let between = high.strictly_between(Millivolts(1500), Millivolts(7500));
+    let driven = units::driven(wave);
+    let low_in_band = bands::in_low_band(low);
+    sound_by(between, driven, low_in_band)
+}
+
+// Proven: wave driven, high in a ready band, low in the low band.
+pub fn proven(wave: u32, high: Millivolts, low: Millivolts, ventilation: bool) -> bool
+    ensures { λ r. ⌜ r ≡ proven wave (high .0) (low .0) ventilation ⌝ }
+{
+    let driven = units::driven(wave);
+    let band = bands::band(high);
+    let ready = bands::ready(band, ventilation);
+    let low_in_band = bands::in_low_band(low);
+    all(driven, ready, low_in_band)
+}
+
+// Diode-bad: wave driven, high in B, C or D, low outside the low band.
+pub fn diode_bad(wave: u32, high: Millivolts, low: Millivolts) -> bool
+    ensures { λ r. ⌜ r ≡ diodeBad wave (high .0) (low .0) ⌝ }
+{
+    let driven = units::driven(wave);
+    let band = bands::band(high);
+    let bcd = bands::is_b_c_or_d(band);
+    let low_in_band = bands::in_low_band(low);
+    diode_bad_by(driven, bcd, low_in_band)
+}
+
+// The band and the verdicts of a sample, under the wave as commanded before the call.
+pub fn judge(wave: u32, high: Millivolts, low: Millivolts, ventilation: bool) -> Verdict
+    ensures { λ r. ⌜ r ≡ verdictOf wave (high .0) (low .0) ventilation ⌝ }
+{
+    let band = bands::band(high);
+    let is_sound = sound(wave, high, low);
+    let is_proven = proven(wave, high, low, ventilation);
+    let is_bad = diode_bad(wave, high, low);
+    Verdict {
+        band: band,
+        sound: is_sound,
+        proven: is_proven,
+        diodebad: is_bad,
+    }
+}

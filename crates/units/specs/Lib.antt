@@ -1,0 +1,3 @@
+-- The definitions that the contracts of crate units cite.
+pub mod Range
+pub mod Wave

@@ -1,0 +1,114 @@
+// The units of the control pilot: level, current and time. Each is a type of its own, so that millivolts, milliamps and
+// milliseconds never stand in for one another. A duty, and so a wave command, is a plain number in tenths of a percent.
+ghost use mathlib.Core.Path.{_≡_};
+ghost use mathlib.Core.Bool.{_&&_};
+ghost use Prim.Native.Nat.{_+_, min};
+ghost use lib.Dec.{leb, ltb};
+ghost use lib.Signed.{leZ, ltZ};
+ghost use Rattle.units.specs.Range.{within, strictlyBetween, fromTo};
+ghost use Rattle.units.specs.Wave.{driven};
+
+// A level of the control pilot, in millivolts.
+#[repr(C)]
+pub struct Millivolts(pub i32);
+
+// A current, in milliamps.
+#[repr(C)]
+pub struct Milliamps(pub u32);
+
+// A point in time or a span of time, in milliseconds.
+#[repr(C)]
+pub struct Millis(pub u64);
+
+fn both(a: bool, b: bool) -> bool
+    ensures { λ r. ⌜ r ≡ a && b ⌝ }
+{
+    a && b
+}
+
+impl Millivolts {
+    pub fn at_least(self, other: Millivolts) -> bool
+        ensures { λ r. ⌜ r ≡ leZ (other .0) (self .0) ⌝ }
+    {
+        other.0 <= self.0
+    }
+
+    pub fn above(self, other: Millivolts) -> bool
+        ensures { λ r. ⌜ r ≡ ltZ (other .0) (self .0) ⌝ }
+    {
+        other.0 < self.0
+    }
+
+    // From one end to the other; the ends belong.
+    pub fn within(self, from: Millivolts, to: Millivolts) -> bool
+        ensures { λ r. ⌜ r ≡ within (from .0) (to .0) (self .0) ⌝ }
+    {
+        let not_below = self.at_least(from);
+        let not_above = to.at_least(self);
+        both(not_below, not_above)
+    }
+
+    // Between two levels; the ends do not belong.
+    pub fn strictly_between(self, from: Millivolts, to: Millivolts) -> bool
+        ensures { λ r. ⌜ r ≡ strictlyBetween (from .0) (to .0) (self .0) ⌝ }
+    {
+        let above = self.above(from);
+        let below = to.above(self);
+        both(above, below)
+    }
+}
+
+impl Milliamps {
+    pub fn below(self, other: Milliamps) -> bool
+        ensures { λ r. ⌜ r ≡ ltb (self .0) (other .0) ⌝ }
+    {
+        self.0 < other.0
+    }
+
+    pub fn at_most(self, other: Milliamps) -> bool
+        ensures { λ r. ⌜ r ≡ leb (self .0) (other .0) ⌝ }
+    {
+        self.0 <= other.0
+    }
+
+    pub fn lesser(self, other: Milliamps) -> Milliamps
+        ensures { λ r. ⌜ r .0 ≡ min (self .0) (other .0) ⌝ }
+    {
+        if self.0 <= other.0 { self } else { other }
+    }
+}
+
+impl Millis {
+    pub fn before(self, other: Millis) -> bool
+        ensures { λ r. ⌜ r ≡ ltb (self .0) (other .0) ⌝ }
+    {
+        self.0 < other.0
+    }
+
+    // At `now`, this time lies `span` or more ago. Total: no sum is made that could overflow.
+    pub fn at_least_ago(self, span: Millis, now: Millis) -> bool
+        ensures { λ r. ⌜ r ≡ leb (self .0 + span .0) (now .0) ⌝ }
+    {
+        if now.0 < self.0 {
+            return false;
+        }
+        span.0 <= now.0 - self.0
+    }
+
+    // At `now`, this time lies more than `span` ago.
+    pub fn more_than_ago(self, span: Millis, now: Millis) -> bool
+        ensures { λ r. ⌜ r ≡ ltb (self .0 + span .0) (now .0) ⌝ }
+    {
+        if now.0 < self.0 {
+            return false;
+        }
+        span.0 < now.0 - self.0
+    }
+}
+
+// The wave command is a driven square wave.
+pub fn driven(wave: u32) -> bool
+    ensures { λ r. ⌜ r ≡ driven wave ⌝ }
+{
+    100 <= wave && wave <= 960
+}
