@@ -1,0 +1,17 @@
+-- For each case of the functions' answers, document 01's number and values.
+use Rattle.duty.specs.Reading.{Reads, noCharging, digitalOnly, current, refused}
+use Rattle.duty.specs.DutyFor.{Sends, duty, refusal}
+use Rattle.duty.specs.declared.Reading.{Reading}
+use Rattle.duty.specs.declared.Reading.the-variants.{NoCharging, DigitalOnly, Current, AboveScale}
+use Rattle.duty.specs.declared.Greatest.{Greatest}
+use Rattle.duty.specs.declared.Greatest.the-variants.{Duty, TooLow}
+
+abbrev pub asReads : Reading → Reads
+asReads NoCharging = noCharging
+asReads DigitalOnly = digitalOnly
+asReads (Current milliamps) = current (milliamps .0)
+asReads AboveScale = refused 9
+
+abbrev pub asSends : Greatest → Sends
+asSends (Duty d) = duty d
+asSends TooLow = refusal 10
