@@ -1,5 +1,5 @@
 -- Ranges of levels and of duties.
-use mathlib.Core.Bool.{Bool, _&&_}
+use mathlib.Core.Bool.{Bool, _&&_, cond}
 use Prim.Native.Nat.{ℕ}
 use lib.Dec.{leb}
 use lib.IntN.{ℤ}
@@ -16,3 +16,10 @@ strictlyBetween from to level = ltZ from level && ltZ level to
 -- "d in 100 to 960": a number from one end to the other, both included
 unfoldable pub fromTo : ℕ → ℕ → ℕ → Bool
 fromTo from to n = leb from n && leb n to
+
+-- the higher and the lower of two levels
+unfoldable pub higher : ℤ → ℤ → ℤ
+higher a b = cond (leZ a b) b a
+
+unfoldable pub lower : ℤ → ℤ → ℤ
+lower a b = cond (leZ a b) a b

@@ -1,11 +1,11 @@
 // The units of the control pilot: level, current and time. Each is a type of its own, so that millivolts, milliamps and
 // milliseconds never stand in for one another. A duty, and so a wave command, is a plain number in tenths of a percent.
 ghost use mathlib.Core.Path.{_≡_};
-ghost use mathlib.Core.Bool.{_&&_};
+ghost use mathlib.Core.Bool.{_&&_, cond};
 ghost use Prim.Native.Nat.{_+_, min};
 ghost use lib.Dec.{leb, ltb};
 ghost use lib.Signed.{leZ, ltZ};
-ghost use Rattle.units.specs.Range.{within, strictlyBetween, fromTo};
+ghost use Rattle.units.specs.Range.{within, strictlyBetween, higher, lower};
 ghost use Rattle.units.specs.Wave.{driven};
 
 // A level of the control pilot, in millivolts.
@@ -24,6 +24,12 @@ fn both(a: bool, b: bool) -> bool
     ensures { λ r. ⌜ r ≡ a && b ⌝ }
 {
     a && b
+}
+
+fn pick(first: bool, a: Millivolts, b: Millivolts) -> Millivolts
+    ensures { λ r. ⌜ r .0 ≡ cond first (a .0) (b .0) ⌝ }
+{
+    if first { a } else { b }
 }
 
 impl Millivolts {
@@ -55,6 +61,20 @@ impl Millivolts {
         let above = self.above(from);
         let below = to.above(self);
         both(above, below)
+    }
+
+    pub fn higher(self, other: Millivolts) -> Millivolts
+        ensures { λ r. ⌜ r .0 ≡ higher (self .0) (other .0) ⌝ }
+    {
+        let not_above = other.at_least(self);
+        pick(not_above, other, self)
+    }
+
+    pub fn lower(self, other: Millivolts) -> Millivolts
+        ensures { λ r. ⌜ r .0 ≡ lower (self .0) (other .0) ⌝ }
+    {
+        let not_above = other.at_least(self);
+        pick(not_above, self, other)
     }
 }
 

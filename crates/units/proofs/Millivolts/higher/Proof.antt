@@ -1,0 +1,11 @@
+-- A comparison and the choice by it are the definition.
+use Rattle.units.specs.Range.{higher}
+use Rattle.units.proofs.Millivolts.higher.Statement.{statement}
+use Rattle.units.proofs.Millivolts.higher.Tie as tie
+
+returns : tie.Need-returns
+unfolding higher
+returns c = cc
+
+pub higher-spec : {M : Type 1} → statement M
+higher-spec = tie.close (tie.spec (λ c κs. tt) (λ c κs. tt) returns)

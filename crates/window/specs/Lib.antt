@@ -1,0 +1,5 @@
+-- The definitions that the contracts of crate window cite.
+pub mod Support
+pub mod Weighing
+pub mod Search
+pub mod Answers

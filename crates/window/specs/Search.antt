@@ -1,0 +1,16 @@
+-- How the search for the levels goes on: the levels found so far, with one more reading.
+use mathlib.Core.Bool.{Bool, false}
+use Prim.Native.Nat.{ℕ}
+use lib.IntN.{ℤ}
+use Rattle.units.specs.Range.{within, higher, lower}
+use Rattle.window.specs.Weighing.{Weighs, levels, refused}
+
+-- the reading lies within the levels found so far
+unfoldable pub inside : Weighs → ℤ → Bool
+inside (levels high low) reading = within low high reading
+inside (refused number) reading = false
+
+-- the levels found so far, with one more supported reading
+unfoldable pub widen : Weighs → ℤ → Weighs
+widen (levels high low) reading = levels (higher high reading) (lower low reading)
+widen (refused number) reading = levels reading reading

@@ -1,0 +1,53 @@
+-- A window of readings to levels (document 01, "Window to levels"). Levels are in millivolts.
+use mathlib.Core.Bool.{Bool, true, _&&_, not, cond}
+use mathlib.Core.List.{List, [], _∷_}
+use Prim.Native.Nat.{ℕ}
+use lib.IntN.{ℤ, pos, negℤ}
+use lib.ListN.{length}
+use Rattle.units.specs.Range.{within, fromTo, higher, lower}
+use Rattle.window.specs.Support.{supported}
+
+-- the high and the low level, or the number of the refusal
+pub data Weighs : Type 0 where
+  levels : ℤ → ℤ → Weighs
+  refused : ℕ → Weighs
+
+-- "256 to 1,024 readings"
+unfoldable pub lengthAllowed : List ℤ → Bool
+lengthAllowed window = fromTo 256 1024 (length window)
+
+-- "each -15,000 to 15,000 mV"
+abbrev pub readingAllowed : ℤ → Bool
+readingAllowed reading = within (negℤ (pos 15000)) (pos 15000) reading
+
+unfoldable pub allAllowed : List ℤ → Bool
+allAllowed [] = true
+allAllowed (reading ∷ readings) = readingAllowed reading && allAllowed readings
+
+-- the readings that pass a test
+unfoldable pub select : (ℤ → Bool) → List ℤ → List ℤ
+select test [] = []
+select test (reading ∷ readings) =
+    let rest = select test readings in
+    cond (test reading) (reading ∷ rest) rest
+
+-- the greatest of a reading and more readings
+unfoldable pub greatest : ℤ → List ℤ → ℤ
+greatest first [] = first
+greatest first (reading ∷ readings) = greatest (higher first reading) readings
+
+-- the least of a reading and more readings
+unfoldable pub least : ℤ → List ℤ → ℤ
+least first [] = first
+least first (reading ∷ readings) = least (lower first reading) readings
+
+-- "The high level is the greatest supported reading, the low level the least"; refusal 6: "no supported reading"
+unfoldable pub levelsOf : List ℤ → Weighs
+levelsOf [] = refused 6
+levelsOf (reading ∷ readings) = levels (greatest reading readings) (least reading readings)
+
+-- a window weighed; refusals 4 "window length", 5 "a reading out of range" and 6, in this order
+unfoldable pub weighing : List ℤ → Weighs
+weighing window =
+    cond (not (lengthAllowed window)) (refused 4)
+    (cond (not (allAllowed window)) (refused 5) (levelsOf (select (supported window) window)))
