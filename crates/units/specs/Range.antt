@@ -19,7 +19,7 @@ fromTo from to n = leb from n && leb n to
 
 -- the higher and the lower of two levels
 unfoldable pub higher : ℤ → ℤ → ℤ
-higher a b = cond (leZ a b) b a
+higher a b = cond (leZ b a) a b
 
 unfoldable pub lower : ℤ → ℤ → ℤ
 lower a b = cond (leZ a b) a b

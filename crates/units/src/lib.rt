@@ -66,8 +66,8 @@ impl Millivolts {
     pub fn higher(self, other: Millivolts) -> Millivolts
         ensures { λ r. ⌜ r .0 ≡ higher (self .0) (other .0) ⌝ }
     {
-        let not_above = other.at_least(self);
-        pick(not_above, other, self)
+        let not_below = self.at_least(other);
+        pick(not_below, self, other)
     }
 
     pub fn lower(self, other: Millivolts) -> Millivolts

@@ -1,3 +1,5 @@
 -- Laws that belong to no one function.
 mod Sizes
 mod Turns
+mod Counting
+mod Gathering

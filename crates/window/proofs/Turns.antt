@@ -1,8 +1,8 @@
 -- What one turn of a loop over the window does to what is left of it.
-use mathlib.Core.Path.{_≡_, refl, _∙_, sym}
-use mathlib.Core.Bool.{Bool, true, false}
+use mathlib.Core.Path.{_≡_}
+use mathlib.Core.Bool.{true, false}
 use mathlib.Core.List.{List, [], _∷_}
-use Prim.Native.Nat.{ℕ, suc, _+_, _≤_, _<_}
+use Prim.Native.Nat.{ℕ, _+_, _≤_, _<_}
 use native.Mathlib.Numerals.{add-one}
 use lib.IntN.{ℤ, pos}
 use lib.ListN.{length, getD, drop, drop-of-length-le}
@@ -23,7 +23,7 @@ module _ (window : List ℤ) (i : ℕ) (reading : ℤ) (here : reading ≡ getD 
 
   pub allowed-stops : readingAllowed reading ≡ false → false ≡ allAllowed (drop i window)
   unfolding allAllowed
-  allowed-stops no′ = rw (next window i h, ← here, no′)
+  allowed-stops not-ok = rw (next window i h, ← here, not-ok)
 
 pub allowed-done : (window : List ℤ) (i : ℕ) → length window ≤ i → true ≡ allAllowed (drop i window)
 unfolding allAllowed

@@ -1,5 +1,6 @@
 -- How the search for the levels goes on: the levels found so far, with one more reading.
-use mathlib.Core.Bool.{Bool, false}
+use mathlib.Core.Bool.{Bool, false, cond}
+use mathlib.Core.List.{List, [], _∷_}
 use Prim.Native.Nat.{ℕ}
 use lib.IntN.{ℤ}
 use Rattle.units.specs.Range.{within, higher, lower}
@@ -14,3 +15,8 @@ inside (refused number) reading = false
 unfoldable pub widen : Weighs → ℤ → Weighs
 widen (levels high low) reading = levels (higher high reading) (lower low reading)
 widen (refused number) reading = levels reading reading
+
+-- the levels found so far, with the supported ones of more readings
+unfoldable pub gather : (ℤ → Bool) → Weighs → List ℤ → Weighs
+gather test found [] = found
+gather test found (reading ∷ readings) = gather test (cond (test reading) (widen found reading) found) readings

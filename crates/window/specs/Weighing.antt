@@ -46,8 +46,12 @@ unfoldable pub levelsOf : List ℤ → Weighs
 levelsOf [] = refused 6
 levelsOf (reading ∷ readings) = levels (greatest reading readings) (least reading readings)
 
+-- the levels of the supported readings of a window
+unfoldable pub supportedLevels : List ℤ → Weighs
+supportedLevels window = levelsOf (select (supported window) window)
+
 -- a window weighed; refusals 4 "window length", 5 "a reading out of range" and 6, in this order
 unfoldable pub weighing : List ℤ → Weighs
 weighing window =
     cond (not (lengthAllowed window)) (refused 4)
-    (cond (not (allAllowed window)) (refused 5) (levelsOf (select (supported window) window)))
+    (cond (not (allAllowed window)) (refused 5) (supportedLevels window))

@@ -8,7 +8,7 @@ ghost use lib.IntN.{pos, _-ℤ_, natAbs};
 ghost use lib.Signed.{leZ};
 ghost use lib.ListN.{length, getD};
 ghost use Rattle.window.specs.Support.{near, needed};
-ghost use Rattle.window.specs.Weighing.{readingAllowed, allAllowed, weighing};
+ghost use Rattle.window.specs.Weighing.{readingAllowed, allAllowed, supportedLevels, weighing};
 ghost use Rattle.window.specs.Search.{inside, widen};
 ghost use Rattle.window.specs.Answers.{asWeighs, asFound};
 
@@ -130,4 +130,32 @@ fn widened(found: Found, level: Millivolts) -> Found
             }
         }
     }
+}
+
+// The levels of the supported readings. A reading that lies within the levels found so far changes nothing, and is not counted.
+fn levels(window: &[i32]) -> Weighed
+    ensures { λ r. ⌜ asWeighs r ≡ supportedLevels (now (window .entry)) ⌝ }
+{
+    let n = window.len();
+    let needed = support(n);
+    let mut found = Found::Nothing;
+    for i in 0..n {
+        let level = reading(window, i);
+        let settled = inside(found, level);
+        if settled {
+            continue;
+        }
+        let mut count: usize = 0;
+        'count: for j in 0..n {
+            let close = near(level, reading(window, j));
+            if close {
+                count += 1;
+                if needed <= count {
+                    found = widened(found, level);
+                    break 'count;
+                }
+            }
+        }
+    }
+    answer(found)
 }
