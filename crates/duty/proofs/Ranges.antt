@@ -6,21 +6,9 @@ use native.Mathlib.Omega.{arith}
 use native.Mathlib.Decide.{decLt}
 use lib.Dec.{leb}
 use borrow.Author.Tests.{le-leb, lt-leb}
-use Rattle.units.specs.Range.{fromTo}
+use Rattle.units.proofs.FromTo.{inside, under, over}
 use Rattle.duty.specs.Reading.{Reads, current, refused, readingOf}
 use Rattle.duty.specs.DutyFor.{atMost, allowed}
-
-inside : (from to d : ℕ) → from ≤ d → d ≤ to → fromTo from to d ≡ true
-unfolding fromTo
-inside from to d h k = rw (le-leb from d h, le-leb d to k)
-
-under : (from to d : ℕ) → d < from → fromTo from to d ≡ false
-unfolding fromTo
-under from to d h = rw (lt-leb from d h)
-
-over : (from to d : ℕ) → from ≤ d → to < d → fromTo from to d ≡ false
-unfolding fromTo
-over from to d k h = rw (le-leb from d k, lt-leb d to h)
 
 pub reads-lower : (d : ℕ) → 100 ≤ d → d ≤ 850 → readingOf d ≡ current (60 * d)
 unfolding readingOf

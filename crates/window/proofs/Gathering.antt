@@ -1,15 +1,14 @@
 -- The search gathers the levels of the supported readings, one reading after the other.
 use mathlib.Core.Path.{_≡_, refl, _∙_, sym, ap}
-use mathlib.Core.Bool.{Bool, true, false, _&&_, cond}
+use mathlib.Core.Bool.{Bool, true, false, cond}
 use mathlib.Core.List.{List, [], _∷_}
 use Prim.Native.Nat.{ℕ, _+_, _<_}
-use native.Mathlib.Omega.{arith}
 use lib.IntN.{ℤ, pos}
 use lib.ListN.{length, getD, drop}
-use lib.Signed.{leZ}
-use Rattle.units.specs.Range.{within, higher, lower}
+use Rattle.units.proofs.LevelOrder.{both-ways, within-parts}
+use Rattle.units.specs.Range.{higher, lower}
 use Rattle.window.specs.Support.{supported}
-use Rattle.window.specs.Weighing.{Weighs, levels, refused, select, greatest, least, levelsOf, supportedLevels}
+use Rattle.window.specs.Weighing.{Weighs, levels, refused, select, extreme, greatest, least, levelsOf, supportedLevels}
 use Rattle.window.specs.Search.{inside, widen, gather}
 use Rattle.window.proofs.Turns.{next}
 
@@ -17,7 +16,7 @@ module _ (test : ℤ → Bool) where
   -- from levels on, the greatest and the least are widened
   gather-levels : (readings : List ℤ) (high low : ℤ)
       → gather test (levels high low) readings ≡ levels (greatest high (select test readings)) (least low (select test readings))
-  unfolding gather select greatest least widen
+  unfolding gather select extreme greatest least widen
   gather-levels [] high low = refl
   gather-levels (x ∷ xs) high low = go (test x) (gather-levels xs)
     where
@@ -63,17 +62,13 @@ module _ (test : ℤ → Bool) where
         go true passes = ap (λ (f : Weighs). gather test f (drop (i + 1) window)) (sym same) ∙ gather-passed passes
         go false fails = gather-failed fails
 
-and-parts : (a b : Bool) → a && b ≡ true → (a ≡ true) × (b ≡ true)
-and-parts true b e = (refl, e)
-and-parts false b e = let clash : _≡_ {A = ℕ} 0 1 = cc in absurd (omega arith)
-
 -- a reading within the levels leaves them as they are
 pub inside-keeps : (found : Weighs) (x : ℤ) → inside found x ≡ true → widen found x ≡ found
-unfolding inside widen within higher lower
+unfolding inside widen higher lower
 inside-keeps (levels high low) x e =
-    let both = and-parts (leZ low x) (leZ x high) e in
+    let both = within-parts low high x e in
     rw (both .0, both .1)
-inside-keeps (refused number) x e = let clash : _≡_ {A = ℕ} 0 1 = cc in absurd (omega arith)
+inside-keeps (refused number) x e = both-ways (sym e)
 
 -- the whole search
 pub whole : (window : List ℤ) → gather (supported window) (refused 6) window ≡ supportedLevels window

@@ -3,3 +3,5 @@ mod Sizes
 mod Turns
 mod Counting
 mod Gathering
+mod Refusals
+pub mod Laws

@@ -31,15 +31,16 @@ select test (reading ∷ readings) =
     let rest = select test readings in
     cond (test reading) (reading ∷ rest) rest
 
--- the greatest of a reading and more readings
-unfoldable pub greatest : ℤ → List ℤ → ℤ
-greatest first [] = first
-greatest first (reading ∷ readings) = greatest (higher first reading) readings
+-- of a reading and more readings, the one that is left when one of two is kept each time
+unfoldable pub extreme : (ℤ → ℤ → ℤ) → ℤ → List ℤ → ℤ
+extreme keep first [] = first
+extreme keep first (reading ∷ readings) = extreme keep (keep first reading) readings
 
--- the least of a reading and more readings
+unfoldable pub greatest : ℤ → List ℤ → ℤ
+greatest first readings = extreme higher first readings
+
 unfoldable pub least : ℤ → List ℤ → ℤ
-least first [] = first
-least first (reading ∷ readings) = least (lower first reading) readings
+least first readings = extreme lower first readings
 
 -- "The high level is the greatest supported reading, the low level the least"; refusal 6: "no supported reading"
 unfoldable pub levelsOf : List ℤ → Weighs

@@ -159,3 +159,22 @@ fn levels(window: &[i32]) -> Weighed
     }
     answer(found)
 }
+
+// The high and the low level of a window, or the refusal of it.
+pub fn weigh(window: &[i32]) -> Weighed
+    ensures { λ r. ⌜ asWeighs r ≡ weighing (now (window .entry)) ⌝ }
+{
+    let n = window.len();
+    if n < 256 {
+        return Weighed::WrongLength;
+    }
+    if 1024 < n {
+        return Weighed::WrongLength;
+    }
+    let ok = all_allowed(window);
+    if ok {
+        levels(window)
+    } else {
+        Weighed::OutOfRange
+    }
+}
