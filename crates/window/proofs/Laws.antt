@@ -1,1 +1,119 @@
--- hi
+-- The laws of the levels and of the refusals 4, 5 and 6.
+use mathlib.Core.Path.{_≡_, refl, sym, _∙_}
+use mathlib.Core.Bool.{Bool, true, false}
+use mathlib.Core.List.{List, [], _∷_, List·Memᴰ, List·Memᴰ·head, List·Memᴰ·not-nil}
+use mathlib.Core.Logic.{_↔_}
+use Prim.Native.Nat.{ℕ}
+use native.Mathlib.Omega.{arith}
+use lib.IntN.{ℤ}
+use lib.Signed.{leZ}
+use Rattle.units.specs.Range.{higher, lower}
+use Rattle.units.proofs.LevelOrder.{both-ways, le-itself, le-through, higher-bounds, lower-bounds, higher-one, lower-one}
+use Rattle.window.specs.Support.{supported}
+use Rattle.window.specs.Weighing.{Weighs, levels, refused, lengthAllowed, allAllowed, select, extreme, greatest, least, levelsOf, supportedLevels, weighing}
+use Rattle.window.specs.Laws.{LevelsOf, NoneSupported}
+use Rattle.window.proofs.Extremes.{selected, is-selected, extreme-member, extreme-bounds}
+use Rattle.window.proofs.Refusals.{wrong-length, out-of-range, weighed}
+
+module _ (window : List ℤ) where
+  -- a nonempty list of supported readings gives the levels
+  levels-of : (first : ℤ) (rest : List ℤ) → select (supported window) window ≡ first ∷ rest → LevelsOf window (greatest first rest) (least first rest)
+  unfolding greatest least
+  levels-of first rest e = record {
+    high-reading = inWindow high-in .0; high-supported = inWindow high-in .1;
+    low-reading = inWindow low-in .0; low-supported = inWindow low-in .1;
+    between = λ x m s. let here = rw e at (is-selected (supported window) x window m s) in (low-bound x here, high-bound x here) }
+    where
+      inWindow : {x : ℤ} → List·Memᴰ x (first ∷ rest) → List·Memᴰ x window × (supported window x ≡ true)
+      inWindow {x} m = selected (supported window) x window (rw e m)
+      high-in : List·Memᴰ (extreme higher first rest) (first ∷ rest)
+      high-in = extreme-member higher (λ a b. leZ a b ≡ true) le-itself le-through higher-bounds higher-one rest first
+      low-in : List·Memᴰ (extreme lower first rest) (first ∷ rest)
+      low-in = extreme-member lower (λ a b. leZ b a ≡ true) le-itself (λ a b c p q. le-through c b a q p) lower-bounds lower-one rest first
+      high-bound : (x : ℤ) → List·Memᴰ x (first ∷ rest) → leZ x (extreme higher first rest) ≡ true
+      high-bound x = extreme-bounds higher (λ a b. leZ a b ≡ true) le-itself le-through higher-bounds higher-one rest first x
+      low-bound : (x : ℤ) → List·Memᴰ x (first ∷ rest) → leZ (extreme lower first rest) x ≡ true
+      low-bound x = extreme-bounds lower (λ a b. leZ b a ≡ true) le-itself (λ a b c p q. le-through c b a q p) lower-bounds lower-one rest first x
+
+  levels-by : (first : ℤ) (rest : List ℤ) → select (supported window) window ≡ first ∷ rest
+      → supportedLevels window ≡ levels (greatest first rest) (least first rest)
+  unfolding supportedLevels levelsOf
+  levels-by first rest e = rw e
+
+  six-of : select (supported window) window ≡ [] → supportedLevels window ≡ refused 6
+  unfolding supportedLevels levelsOf
+  six-of e = rw e
+
+  -- the four ways in which a window is answered
+  data Way : Type 0 where
+    four : lengthAllowed window ≡ false → weighing window ≡ refused 4 → Way
+    five : lengthAllowed window ≡ true → allAllowed window ≡ false → weighing window ≡ refused 5 → Way
+    six : NoneSupported window → weighing window ≡ refused 6 → Way
+    found : (high low : ℤ) → LevelsOf window high low → weighing window ≡ levels high low → Way
+
+  way : Way
+  way = byLength (lengthAllowed window) refl
+    where
+      none : select (supported window) window ≡ [] → (x : ℤ) → List·Memᴰ x window → supported window x ≡ false
+      none e x m = go (supported window x) refl
+        where
+          go : (t : Bool) → supported window x ≡ t → t ≡ false
+          go true s = absurd (List·Memᴰ·not-nil (rw e at (is-selected (supported window) x window m s)))
+          go false s = refl
+      byList : (chosen : List ℤ) → select (supported window) window ≡ chosen → lengthAllowed window ≡ true → allAllowed window ≡ true → Way
+      byList [] e l a = six (record { length-right = l; readings-right = a; none = none e }) (weighed window l a ∙ six-of e)
+      byList (first ∷ rest) e l a = found (greatest first rest) (least first rest) (levels-of first rest e) (weighed window l a ∙ levels-by first rest e)
+      byReadings : (t : Bool) → allAllowed window ≡ t → lengthAllowed window ≡ true → Way
+      byReadings true a l = byList (select (supported window) window) refl l a
+      byReadings false a l = five l a (out-of-range window l a)
+      byLength : (t : Bool) → lengthAllowed window ≡ t → Way
+      byLength true l = byReadings (allAllowed window) refl l
+      byLength false l = four l (wrong-length window l)
+
+  -- "The high level is the greatest supported reading, the low level the least"
+  pub levels-are : (high low : ℤ) → weighing window ≡ levels high low → LevelsOf window high low
+  levels-are high low e = go way
+    where
+      go : Way → LevelsOf window high low
+      go (four l w) = let clash : _≡_ {A = ℕ} 0 1 = cc in absurd (omega arith)
+      go (five l a w) = let clash : _≡_ {A = ℕ} 0 1 = cc in absurd (omega arith)
+      go (six n w) = let clash : _≡_ {A = ℕ} 0 1 = cc in absurd (omega arith)
+      go (found h l are w) =
+          let same-high : h ≡ high = cc in
+          let same-low : l ≡ low = cc in
+          rw (← same-high, ← same-low) are
+
+  -- refusal 4 comes for the length, and for nothing else
+  pub four-exactly : (weighing window ≡ refused 4) ↔ (lengthAllowed window ≡ false)
+  four-exactly = (λ e. go e way, wrong-length window)
+    where
+      go : weighing window ≡ refused 4 → Way → lengthAllowed window ≡ false
+      go e (four l w) = l
+      go e (five l a w) = let clash : _≡_ {A = ℕ} 4 5 = cc in absurd (omega arith)
+      go e (six n w) = let clash : _≡_ {A = ℕ} 4 6 = cc in absurd (omega arith)
+      go e (found h l are w) = let clash : _≡_ {A = ℕ} 0 1 = cc in absurd (omega arith)
+
+  -- refusal 5 comes for a reading out of range, after 4
+  pub five-exactly : (weighing window ≡ refused 5) ↔ ((lengthAllowed window ≡ true) × (allAllowed window ≡ false))
+  five-exactly = (λ e. go e way, λ h. out-of-range window (h .0) (h .1))
+    where
+      go : weighing window ≡ refused 5 → Way → (lengthAllowed window ≡ true) × (allAllowed window ≡ false)
+      go e (four l w) = let clash : _≡_ {A = ℕ} 5 4 = cc in absurd (omega arith)
+      go e (five l a w) = (l, a)
+      go e (six n w) = let clash : _≡_ {A = ℕ} 5 6 = cc in absurd (omega arith)
+      go e (found h l are w) = let clash : _≡_ {A = ℕ} 0 1 = cc in absurd (omega arith)
+
+  -- "The window is refused exactly if no reading is supported", once length and readings are right
+  pub six-exactly : (weighing window ≡ refused 6) ↔ NoneSupported window
+  six-exactly = (λ e. go e way, λ n. back n way)
+    where
+      go : weighing window ≡ refused 6 → Way → NoneSupported window
+      go e (four l w) = let clash : _≡_ {A = ℕ} 6 4 = cc in absurd (omega arith)
+      go e (five l a w) = let clash : _≡_ {A = ℕ} 6 5 = cc in absurd (omega arith)
+      go e (six n w) = n
+      go e (found h l are w) = let clash : _≡_ {A = ℕ} 0 1 = cc in absurd (omega arith)
+      back : NoneSupported window → Way → weighing window ≡ refused 6
+      back n (four l w) = both-ways (sym (n .length-right) ∙ l)
+      back n (five l a w) = both-ways (sym (n .readings-right) ∙ a)
+      back n (six m w) = w
+      back n (found h l are w) = both-ways (sym (are .high-supported) ∙ n .none h (are .high-reading))

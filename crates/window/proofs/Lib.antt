@@ -4,4 +4,5 @@ mod Turns
 mod Counting
 mod Gathering
 mod Refusals
+mod Extremes
 pub mod Laws

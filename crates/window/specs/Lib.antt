@@ -2,4 +2,5 @@
 pub mod Support
 pub mod Weighing
 pub mod Search
+pub mod Laws
 pub mod Answers
