@@ -36,30 +36,38 @@ module _ (available : ℕ) where
   -- from 6,000 up to 51,000
   pub greatest-lower : 6000 ≤ available → available < 51000 → IsGreatest available (available / 60)
   greatest-lower h k = record {
-    least = omega arith; most = omega arith;
+    least = omega arith;
+    most = omega arith;
     fits = (60 * (available / 60), reads-lower (available / 60) (omega arith) (omega arith), omega arith);
-    above = λ e l m. reads-more available e (omega arith) m (λ u. omega arith) (λ u. omega arith) }
+    above = λ e l m. reads-more available e (omega arith) m (λ u. omega arith) (λ u. omega arith);
+  }
 
   -- from 51,000 up to 52,750, where the next duty reads too much
   pub greatest-between : 51000 ≤ available → available < 52750 → IsGreatest available 850
   greatest-between h k = record {
-    least = omega arith; most = omega arith;
+    least = omega arith;
+    most = omega arith;
     fits = (51000, reads-lower 850 (omega arith) (omega arith), h);
-    above = λ e l m. reads-more available e (omega arith) m (λ u. omega arith) (λ u. omega arith) }
+    above = λ e l m. reads-more available e (omega arith) m (λ u. omega arith) (λ u. omega arith);
+  }
 
   -- from 52,750 up to 80,000
   pub greatest-upper : 52750 ≤ available → available < 80000 → IsGreatest available (available / 250 + 640)
   greatest-upper h k = record {
-    least = omega arith; most = omega arith;
+    least = omega arith;
+    most = omega arith;
     fits = (250 * (available / 250 + 640 - 640), reads-upper (available / 250 + 640) (omega arith) (omega arith), omega arith);
-    above = λ e l m. reads-more available e (omega arith) m (λ u. omega arith) (λ u. omega arith) }
+    above = λ e l m. reads-more available e (omega arith) m (λ u. omega arith) (λ u. omega arith);
+  }
 
   -- from 80,000 on
   pub greatest-top : 80000 ≤ available → IsGreatest available 960
   greatest-top h = record {
-    least = omega arith; most = omega arith;
+    least = omega arith;
+    most = omega arith;
     fits = (80000, reads-upper 960 (omega arith) (omega arith), h);
-    above = λ e l m. absurd (omega arith) }
+    above = λ e l m. absurd (omega arith);
+  }
 
   -- "The duty sent is the greatest allowed one whose current is not above what is available"
   pub greatest : 6000 ≤ available → (d : ℕ) × (dutyFor available ≡ duty d) × IsGreatest available d
@@ -67,6 +75,7 @@ module _ (available : ℕ) where
     where
       of : (d : ℕ) → IsGreatest available d → (e : ℕ) × (dutyFor available ≡ duty e) × IsGreatest available e
       of d g = (d, unique available d g, g)
+
       go : Dec (available < 51000) → Dec (available < 52750) → Dec (available < 80000)
           → (d : ℕ) × (dutyFor available ≡ duty d) × IsGreatest available d
       go (yes a) _ _ = of _ (greatest-lower h a)

@@ -3,7 +3,6 @@ mod table;
 
 use table::READINGS;
 use units::Milliamps;
-
 ghost use mathlib.Core.Path.{_≡_};
 ghost use Rattle.duty.specs.Reading.{readingOf, entryReads};
 ghost use Rattle.duty.specs.DutyFor.{dutyFor};

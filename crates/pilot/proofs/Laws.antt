@@ -53,4 +53,5 @@ module _ (high : ℤ) where
     isB = (λ h. rw h at told, λ e. rw (notA _ _ e refl, e));
     isC = (λ h. rw h at told, λ e. rw (notA _ _ e refl, notB _ _ e refl, e));
     isD = (λ h. rw h at told, λ e. rw (notA _ _ e refl, notB _ _ e refl, notC _ _ e refl, e));
-    isE = (λ h. rw h at told, λ e. rw (notA _ _ e refl, notB _ _ e refl, notC _ _ e refl, notD _ _ e refl, e)) }
+    isE = (λ h. rw h at told, λ e. rw (notA _ _ e refl, notB _ _ e refl, notC _ _ e refl, notD _ _ e refl, e));
+  }

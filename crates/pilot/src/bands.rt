@@ -1,6 +1,5 @@
 // Bands of levels: which band a high level is in, and what the bands tell of the van.
 use units::Millivolts;
-
 ghost use mathlib.Core.Path.{_≡_};
 ghost use mathlib.Core.Bool.{_&&_, _||_, cond};
 ghost use lib.Dec.{eqb};

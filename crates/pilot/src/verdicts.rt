@@ -1,7 +1,6 @@
 // The verdicts on a sample.
-use units::Millivolts;
 use crate::bands;
-
+use units::Millivolts;
 ghost use mathlib.Core.Path.{_≡_};
 ghost use mathlib.Core.Bool.{_&&_, _||_, not};
 ghost use Rattle.pilot.specs.Verdicts.{sound, proven, diodeBad, verdictOf};
@@ -18,11 +17,7 @@ pub struct Verdict {
 fn all(a: bool, b: bool, c: bool) -> bool
     ensures { λ r. ⌜ r ≡ a && (b && c) ⌝ }
 {
-    if a {
-        if b { c } else { false }
-    } else {
-        false
-    }
+    if a { if b { c } else { false } } else { false }
 }
 
 fn sound_by(between: bool, driven: bool, low: bool) -> bool

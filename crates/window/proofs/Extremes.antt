@@ -38,7 +38,6 @@ module _ (keep : ℤ → ℤ → ℤ) (Bound : ℤ → ℤ → Type 0)
     (itself : (a : ℤ) → Bound a a) (through : (a b c : ℤ) → Bound a b → Bound b c → Bound a c)
     (both : (a b : ℤ) → Bound a (keep a b) × Bound b (keep a b))
     (one : (a b : ℤ) → (keep a b ≡ a) ⊎ (keep a b ≡ b)) where
-
   -- it is one of them
   pub extreme-member : (readings : List ℤ) (first : ℤ) → List·Memᴰ (extreme keep first readings) (first ∷ readings)
   unfolding extreme
@@ -47,6 +46,7 @@ module _ (keep : ℤ → ℤ → ℤ) (Bound : ℤ → ℤ → Type 0)
     where
       e : ℤ
       e = extreme keep (keep first x) xs
+
       go : (e ≡ keep first x) ⊎ List·Memᴰ e xs → List·Memᴰ e (first ∷ x ∷ xs)
       go (inl kept) =
           ⊎-elim (λ (l : keep first x ≡ first). List·Memᴰ·head (kept ∙ l)) (λ (r : keep first x ≡ x). List·Memᴰ·tail (List·Memᴰ·head (kept ∙ r)))
@@ -63,6 +63,7 @@ module _ (keep : ℤ → ℤ → ℤ) (Bound : ℤ → ℤ → Type 0)
     where
       e : ℤ
       e = extreme keep (keep first x) xs
+
       go : ((z : ℤ) → List·Memᴰ z (keep first x ∷ xs) → Bound z e) → (y ≡ first) ⊎ List·Memᴰ y (x ∷ xs) → Bound y e
       go ih (inl same) =
           subst (λ (z : ℤ). Bound z e) (sym same) (through first (keep first x) e (both first x .0) (ih (keep first x) (List·Memᴰ·head refl)))

@@ -20,18 +20,25 @@ module _ (window : List ℤ) where
   levels-of : (first : ℤ) (rest : List ℤ) → select (supported window) window ≡ first ∷ rest → LevelsOf window (greatest first rest) (least first rest)
   unfolding greatest least
   levels-of first rest e = record {
-    high-reading = inWindow high-in .0; high-supported = inWindow high-in .1;
-    low-reading = inWindow low-in .0; low-supported = inWindow low-in .1;
-    between = λ x m s. let here = rw e at (is-selected (supported window) x window m s) in (low-bound x here, high-bound x here) }
+    high-reading = inWindow high-in .0;
+    high-supported = inWindow high-in .1;
+    low-reading = inWindow low-in .0;
+    low-supported = inWindow low-in .1;
+    between = λ x m s. let here = rw e at (is-selected (supported window) x window m s) in (low-bound x here, high-bound x here);
+  }
     where
       inWindow : {x : ℤ} → List·Memᴰ x (first ∷ rest) → List·Memᴰ x window × (supported window x ≡ true)
       inWindow {x} m = selected (supported window) x window (rw e m)
+
       high-in : List·Memᴰ (extreme higher first rest) (first ∷ rest)
       high-in = extreme-member higher (λ a b. leZ a b ≡ true) le-itself le-through higher-bounds higher-one rest first
+
       low-in : List·Memᴰ (extreme lower first rest) (first ∷ rest)
       low-in = extreme-member lower (λ a b. leZ b a ≡ true) le-itself (λ a b c p q. le-through c b a q p) lower-bounds lower-one rest first
+
       high-bound : (x : ℤ) → List·Memᴰ x (first ∷ rest) → leZ x (extreme higher first rest) ≡ true
       high-bound x = extreme-bounds higher (λ a b. leZ a b ≡ true) le-itself le-through higher-bounds higher-one rest first x
+
       low-bound : (x : ℤ) → List·Memᴰ x (first ∷ rest) → leZ (extreme lower first rest) x ≡ true
       low-bound x = extreme-bounds lower (λ a b. leZ b a ≡ true) le-itself (λ a b c p q. le-through c b a q p) lower-bounds lower-one rest first x
 
@@ -60,12 +67,15 @@ module _ (window : List ℤ) where
           go : (t : Bool) → supported window x ≡ t → t ≡ false
           go true s = absurd (List·Memᴰ·not-nil (rw e at (is-selected (supported window) x window m s)))
           go false s = refl
+
       byList : (chosen : List ℤ) → select (supported window) window ≡ chosen → lengthAllowed window ≡ true → allAllowed window ≡ true → Way
       byList [] e l a = six (record { length-right = l; readings-right = a; none = none e }) (weighed window l a ∙ six-of e)
       byList (first ∷ rest) e l a = found (greatest first rest) (least first rest) (levels-of first rest e) (weighed window l a ∙ levels-by first rest e)
+
       byReadings : (t : Bool) → allAllowed window ≡ t → lengthAllowed window ≡ true → Way
       byReadings true a l = byList (select (supported window) window) refl l a
       byReadings false a l = five l a (out-of-range window l a)
+
       byLength : (t : Bool) → lengthAllowed window ≡ t → Way
       byLength true l = byReadings (allAllowed window) refl l
       byLength false l = four l (wrong-length window l)
@@ -112,6 +122,7 @@ module _ (window : List ℤ) where
       go e (five l a w) = let clash : _≡_ {A = ℕ} 6 5 = cc in absurd (omega arith)
       go e (six n w) = n
       go e (found h l are w) = let clash : _≡_ {A = ℕ} 0 1 = cc in absurd (omega arith)
+
       back : NoneSupported window → Way → weighing window ≡ refused 6
       back n (four l w) = both-ways (sym (n .length-right) ∙ l)
       back n (five l a w) = both-ways (sym (n .readings-right) ∙ a)

@@ -1,6 +1,5 @@
 // A window of readings to the high and the low level. A level needs support: one stray reading makes none.
 use units::Millivolts;
-
 ghost use mathlib.Core.Path.{_≡_};
 ghost use mathlib.Core.Bool.{_&&_};
 ghost use lib.Dec.{leb};

@@ -70,12 +70,20 @@ count-again c =
     let more = c .before .before .before .count-test .taken in
     let near = sym (c .before .near .ensures) in
     ⊎-elim
-    (λ w. (omega arith, count .inv .1, omega (arith, w .1 .left, w .2),
-    rw (w .2)
-    (close-next window x (count .count) (count .j) (count .inv .3) (other .result .0) (other .ensures) more (near ∙ w .0 .taken))))
-    (λ w. (omega arith, count .inv .1, omega (arith, w .1),
-    rw (w .1)
-    (apart-next window x (count .count) (count .j) (count .inv .3) (other .result .0) (other .ensures) more (near ∙ w .0 .left))))
+    (λ w. (
+      omega arith,
+      count .inv .1,
+      omega (arith, w .1 .left, w .2),
+      rw (w .2)
+          (close-next window x (count .count) (count .j) (count .inv .3) (other .result .0) (other .ensures) more (near ∙ w .0 .taken)),
+    ))
+    (λ w. (
+      omega arith,
+      count .inv .1,
+      omega (arith, w .1),
+      rw (w .1)
+          (apart-next window x (count .count) (count .j) (count .inv .3) (other .result .0) (other .ensures) more (near ∙ w .0 .left)),
+    ))
     (c .if2 .came)
 
 add-i-2 : tie.Need-add-i-2 Inv-count μ-count Inv-loop μ-loop
@@ -94,19 +102,20 @@ loop-again-2 c =
     let count = c .before .count in
     let x = level .result .0 in
     let test = supported window in
-    let rest = drop (loop .i + 1) window in
-    (omega arith,
-    ⊎-elim
-    (λ w.
-    let fails = too-few window x (count .count) (count .j) (count .inv .3) (supports .result) (supports .ensures) (w .0 .left) (count .inv .2) in
-    ap (λ (f : Found). gather test (asFound f) rest) (w .1 ∙ count .inv .1)
-    ∙ gather-failed test (asFound (loop .found)) window (loop .i) x (level .ensures) more fails ∙ loop .inv .1)
-    (λ w.
-    let passes = enough window x (count .count) (count .j) (count .inv .3) (w .1 .result .0) (w .1 .ensures) (w .0 .taken) (supports .result) (supports .ensures) (sym (w .2 .ensures) ∙ w .3 .taken) (w .4 .taken) in
-    ap (λ (f : Found). gather test (asFound f) rest) (w .6)
-    ∙ ap (λ (f : Weighs). gather test f rest) (w .5 .ensures ∙ ap (λ (f : Found). widen (asFound f) x) (count .inv .1))
-    ∙ gather-passed test (asFound (loop .found)) window (loop .i) x (level .ensures) more passes ∙ loop .inv .1)
-    (c .count-test .came))
+    let rest = drop (loop .i + 1) window in (
+      omega arith,
+      ⊎-elim
+          (λ w.
+          let fails = too-few window x (count .count) (count .j) (count .inv .3) (supports .result) (supports .ensures) (w .0 .left) (count .inv .2) in
+          ap (λ (f : Found). gather test (asFound f) rest) (w .1 ∙ count .inv .1)
+          ∙ gather-failed test (asFound (loop .found)) window (loop .i) x (level .ensures) more fails ∙ loop .inv .1)
+          (λ w.
+          let passes = enough window x (count .count) (count .j) (count .inv .3) (w .1 .result .0) (w .1 .ensures) (w .0 .taken) (supports .result) (supports .ensures) (sym (w .2 .ensures) ∙ w .3 .taken) (w .4 .taken) in
+          ap (λ (f : Found). gather test (asFound f) rest) (w .6)
+          ∙ ap (λ (f : Weighs). gather test f rest) (w .5 .ensures ∙ ap (λ (f : Found). widen (asFound f) x) (count .inv .1))
+          ∙ gather-passed test (asFound (loop .found)) window (loop .i) x (level .ensures) more passes ∙ loop .inv .1)
+          (c .count-test .came),
+    )
 
 returns : tie.Need-returns Inv-count μ-count Inv-loop μ-loop
 returns c =

@@ -1,0 +1,2 @@
+-- The proof of the starred bench figures.
+pub mod Starred

@@ -1,0 +1,2 @@
+-- The starred bench figures.
+pub mod Starred

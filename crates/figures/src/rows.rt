@@ -1,0 +1,184 @@
+// Rows of the bench figures. Each line names its row and tells the answer.
+use crate::print;
+use crate::readings;
+use duty::Greatest;
+use duty::Reading;
+use pilot::bands;
+use pilot::verdicts;
+use units::Milliamps;
+use units::Millivolts;
+use window::Weighed;
+
+fn available(milliamps: u32) {
+    print::text(b"available ");
+    print::number(milliamps as u64);
+    print::text(b" mA: ");
+    match duty::duty_for(Milliamps(milliamps)) {
+        Greatest::Duty(d) => {
+            print::text(b"duty ");
+            print::number(d as u64);
+        }
+        Greatest::TooLow => print::text(b"refused 10"),
+    }
+    print::end();
+}
+
+fn reads(d: u32) {
+    print::text(b"duty ");
+    print::number(d as u64);
+    match duty::reading_of(d) {
+        Reading::NoCharging => print::text(b": no charging"),
+        Reading::DigitalOnly => print::text(b": digital only"),
+        Reading::Current(i) => {
+            print::text(b": ");
+            print::number(i.0 as u64);
+            print::text(b" mA");
+        }
+        Reading::AboveScale => print::text(b": refused 9"),
+    }
+    print::end();
+}
+
+pub fn duties() {
+    available(6059);
+    available(6060);
+    reads(79);
+    reads(80);
+    reads(970);
+    reads(971);
+    reads(1000);
+    reads(1001);
+}
+
+// Sound or not, under a driven wave.
+fn sound(name: &[u8], high: i32, low: i32) {
+    print::text(name);
+    let is_sound = verdicts::sound(533, Millivolts(high), Millivolts(low));
+    if is_sound {
+        print::text(b": sound\n");
+    } else {
+        print::text(b": unsound\n");
+    }
+}
+
+fn low_band(name: &[u8], low: i32) {
+    print::text(name);
+    let inside = bands::in_low_band(Millivolts(low));
+    if inside {
+        print::text(b": in the low band\n");
+    } else {
+        print::text(b": not in the low band\n");
+    }
+}
+
+pub fn levels() {
+    sound(b"high 7499, low -12000", 7499, -12000);
+    sound(b"high 1501, low -12000", 1501, -12000);
+    sound(b"high 7499, low -10999", 7499, -10999);
+    low_band(b"low -11000", -11000);
+    low_band(b"low -10999", -10999);
+}
+
+// The levels that were found, held to those that the row states.
+fn compare(found_high: Millivolts, found_low: Millivolts, high: i32, low: i32) {
+    if found_high.0 == high {
+        if found_low.0 == low {
+            print::text(b": these levels\n");
+        } else {
+            print::text(b": ANOTHER LOW LEVEL\n");
+        }
+    } else {
+        print::text(b": ANOTHER HIGH LEVEL\n");
+    }
+}
+
+// The answer to a window.
+fn weighs(name: &[u8], window: &[i32], high: i32, low: i32) {
+    print::text(name);
+    match window::weigh(window) {
+        Weighed::Levels { high: h, low: l } => compare(h, l, high, low),
+        Weighed::WrongLength => print::text(b": refused 4\n"),
+        Weighed::OutOfRange => print::text(b": refused 5\n"),
+        Weighed::Unsupported => print::text(b": refused 6\n"),
+    }
+}
+
+pub fn lengths() {
+    let readings = [6000; 1025];
+    weighs(b"255 readings", &readings[..255], 6000, 6000);
+    weighs(
+        b"256 readings at 6000 give high 6000, low 6000",
+        &readings[..256],
+        6000,
+        6000,
+    );
+    weighs(
+        b"1024 readings at 6000 give high 6000, low 6000",
+        &readings[..1024],
+        6000,
+        6000,
+    );
+    weighs(b"1025 readings", &readings, 6000, 6000);
+}
+
+// Windows of 256 readings at -12000 but for the first few.
+pub fn support() {
+    let mut window = [-12000; 256];
+    readings::put(&mut window, 128, 6000);
+    weighs(
+        b"128 at 6000 give high 6000, low -12000",
+        &window,
+        6000,
+        -12000,
+    );
+    readings::put(&mut window, 256, -12000);
+    readings::put(&mut window, 8, 9000);
+    weighs(
+        b"8 at 9000 give high 9000, low -12000",
+        &window,
+        9000,
+        -12000,
+    );
+    readings::put(&mut window, 1, 9200);
+    weighs(
+        b"7 at 9000 and 1 at 9200 give high 9200, low -12000",
+        &window,
+        9200,
+        -12000,
+    );
+    readings::put(&mut window, 1, 9201);
+    weighs(
+        b"7 at 9000 and 1 at 9201 give high -12000, low -12000",
+        &window,
+        -12000,
+        -12000,
+    );
+    readings::put(&mut window, 256, -12000);
+    readings::put(&mut window, 7, 9000);
+    weighs(
+        b"7 at 9000 give high -12000, low -12000",
+        &window,
+        -12000,
+        -12000,
+    );
+    readings::groups_of_seven(&mut window);
+    weighs(b"groups of 7, each 800 from the next", &window, 0, 0);
+}
+
+pub fn ranges() {
+    let mut window = [-15000; 256];
+    readings::put(&mut window, 128, 15000);
+    weighs(
+        b"128 at 15000, 128 at -15000 give high 15000, low -15000",
+        &window,
+        15000,
+        -15000,
+    );
+    readings::put(&mut window, 1, 15001);
+    weighs(b"1 at 15001", &window, 15000, -15000);
+    readings::put(&mut window, 1, -15001);
+    weighs(b"1 at -15001", &window, 15000, -15000);
+    readings::groups_of_seven(&mut window);
+    readings::put(&mut window, 1, 15001);
+    weighs(b"groups of 7 and 1 at 15001", &window, 0, 0);
+}
