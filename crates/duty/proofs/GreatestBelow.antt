@@ -6,12 +6,12 @@ use Prim.Native.Nat.{ℕ, zero, suc, _≤_, _<_}
 use native.Mathlib.Omega.{arith}
 use native.Mathlib.Decide.{decLt}
 use native.Mathlib.Nat.{not-suc-le-zero}
-use Rattle.duty.specs.GreatestBelow.{greatestBelow}
+use Rattle.duty.specs.GreatestBelow.{orElse, greatestBelow}
 
 -- a number that passes, with none above it that does, is the greatest
 pub is-greatest : (test : ℕ → Bool) (end d : ℕ) → d < end → test d ≡ true
     → ((e : ℕ) → d < e → e < end → test e ≡ false) → greatestBelow test end ≡ some d
-unfolding greatestBelow
+unfolding orElse greatestBelow
 is-greatest test zero d h p above = absurd (not-suc-le-zero h)
 is-greatest test (suc n) d h p above = go (decLt d n) (is-greatest test n d)
   where
@@ -27,6 +27,6 @@ is-greatest test (suc n) d h p above = go (decLt d n) (is-greatest test n d)
 
 -- where nothing passes there is no greatest
 pub none-greatest : (test : ℕ → Bool) (end : ℕ) → ((e : ℕ) → e < end → test e ≡ false) → greatestBelow test end ≡ none
-unfolding greatestBelow
+unfolding orElse greatestBelow
 none-greatest test zero fails = refl
 none-greatest test (suc n) fails = rw (fails n (omega arith)) (none-greatest test n (λ e h. fails e (omega arith)))

@@ -3,7 +3,12 @@ use mathlib.Core.Bool.{Bool, cond}
 use mathlib.Core.Option.{Option, none, some}
 use Prim.Native.Nat.{ℕ, zero, suc}
 
--- the greatest number below `end` that passes the test, or none
+-- the first of two answers, or the second where the first is none
+unfoldable pub orElse : Option ℕ → Option ℕ → Option ℕ
+orElse none other = other
+orElse (some n) other = some n
+
+-- the greatest number below `end` that passes the test, or none: the last one if it passes, else the greatest below it
 unfoldable pub greatestBelow : (ℕ → Bool) → ℕ → Option ℕ
 greatestBelow test zero = none
-greatestBelow test (suc n) = let lower = greatestBelow test n in cond (test n) (some n) lower
+greatestBelow test (suc last) = orElse (cond (test last) (some last) none) (greatestBelow test last)

@@ -1,5 +1,6 @@
 // What each duty from 0 to 1000 tells a van: a current in milliamps, or 0 for no charging and 1 for digital only.
 pub const READINGS: [u32; 1001] = [
+    0, // duty 0
     0,
     0,
     0,
@@ -29,7 +30,7 @@ pub const READINGS: [u32; 1001] = [
     0,
     0,
     0,
-    0,
+    1, // duty 30
     1,
     1,
     1,
@@ -70,9 +71,7 @@ pub const READINGS: [u32; 1001] = [
     1,
     1,
     1,
-    1,
-    0,
-    0,
+    0, // duty 71
     0,
     0,
     0,
@@ -80,6 +79,8 @@ pub const READINGS: [u32; 1001] = [
     0,
     0,
     0,
+    0,
+    6000, // duty 80
     6000,
     6000,
     6000,
@@ -99,8 +100,7 @@ pub const READINGS: [u32; 1001] = [
     6000,
     6000,
     6000,
-    6000,
-    6000,
+    6000, // duty 100
     6060,
     6120,
     6180,
@@ -851,7 +851,7 @@ pub const READINGS: [u32; 1001] = [
     50880,
     50940,
     51000,
-    52750,
+    52750, // duty 851
     53000,
     53250,
     53500,
@@ -961,6 +961,7 @@ pub const READINGS: [u32; 1001] = [
     79500,
     79750,
     80000,
+    80000, // duty 961
     80000,
     80000,
     80000,
@@ -970,8 +971,7 @@ pub const READINGS: [u32; 1001] = [
     80000,
     80000,
     80000,
-    80000,
-    0,
+    0, // duty 971
     0,
     0,
     0,

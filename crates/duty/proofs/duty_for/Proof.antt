@@ -15,9 +15,6 @@ returns-2 c = sym (unique _ _ (greatest-lower _ (omega arith) (omega arith)))
 returns-3 : tie.Need-returns-3
 returns-3 c = sym (unique _ _ (greatest-between _ (omega arith) (omega arith)))
 
-add-t6 : tie.Need-add-t6
-add-t6 c = search needs
-
 returns-4 : tie.Need-returns-4
 returns-4 c = sym (unique _ _ (greatest-upper _ (omega arith) (omega arith)))
 
@@ -25,4 +22,4 @@ returns-5 : tie.Need-returns-5
 returns-5 c = sym (unique _ _ (greatest-top _ (omega arith)))
 
 pub duty-for-spec : {M : Type 1} → statement M
-duty-for-spec = tie.close (tie.spec returns returns-2 returns-3 add-t6 returns-4 returns-5)
+duty-for-spec = tie.close (tie.spec returns returns-2 returns-3 (λ c. search needs) returns-4 returns-5)
