@@ -3,38 +3,9 @@ use units::Millivolts;
 ghost use mathlib.Core.Path.{_≡_};
 ghost use mathlib.Core.Bool.{_&&_, _||_, cond};
 ghost use lib.Dec.{eqb};
-ghost use Rattle.pilot.specs.Bands.{bandA, bandB, bandC, bandD, bandE, noBand, inA, inB, inC, inD, inE, inLowBand, bandOf, ready, isBCD};
+ghost use Rattle.pilot.specs.Bands.{bandA, bandB, bandC, bandD, bandE, noBand, inLowBand, bandOf, ready, isBCD};
 
-pub fn in_a(level: Millivolts) -> bool
-    ensures { λ r. ⌜ r ≡ inA (level .0) ⌝ }
-{
-    level.within(Millivolts(11000), Millivolts(13000))
-}
-
-pub fn in_b(level: Millivolts) -> bool
-    ensures { λ r. ⌜ r ≡ inB (level .0) ⌝ }
-{
-    level.within(Millivolts(8000), Millivolts(10000))
-}
-
-pub fn in_c(level: Millivolts) -> bool
-    ensures { λ r. ⌜ r ≡ inC (level .0) ⌝ }
-{
-    level.within(Millivolts(5000), Millivolts(7000))
-}
-
-pub fn in_d(level: Millivolts) -> bool
-    ensures { λ r. ⌜ r ≡ inD (level .0) ⌝ }
-{
-    level.within(Millivolts(2000), Millivolts(4000))
-}
-
-pub fn in_e(level: Millivolts) -> bool
-    ensures { λ r. ⌜ r ≡ inE (level .0) ⌝ }
-{
-    level.within(Millivolts(-1000), Millivolts(1000))
-}
-
+// The low level of a driven wave, where the van has a sound diode.
 pub fn in_low_band(level: Millivolts) -> bool
     ensures { λ r. ⌜ r ≡ inLowBand (level .0) ⌝ }
 {
@@ -64,11 +35,11 @@ fn letter(a: bool, b: bool, c: bool, d: bool, e: bool) -> u8
 pub fn band(high: Millivolts) -> u8
     ensures { λ r. ⌜ r ≡ bandOf (high .0) ⌝ }
 {
-    let a = in_a(high);
-    let b = in_b(high);
-    let c = in_c(high);
-    let d = in_d(high);
-    let e = in_e(high);
+    let a = high.within(Millivolts(11000), Millivolts(13000));
+    let b = high.within(Millivolts(8000), Millivolts(10000));
+    let c = high.within(Millivolts(5000), Millivolts(7000));
+    let d = high.within(Millivolts(2000), Millivolts(4000));
+    let e = high.within(Millivolts(-1000), Millivolts(1000));
     letter(a, b, c, d, e)
 }
 

@@ -85,12 +85,6 @@ impl Milliamps {
         self.0 < other.0
     }
 
-    pub fn at_most(self, other: Milliamps) -> bool
-        ensures { λ r. ⌜ r ≡ leb (self .0) (other .0) ⌝ }
-    {
-        self.0 <= other.0
-    }
-
     pub fn lesser(self, other: Milliamps) -> Milliamps
         ensures { λ r. ⌜ r .0 ≡ min (self .0) (other .0) ⌝ }
     {

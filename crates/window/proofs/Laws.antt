@@ -1,5 +1,5 @@
 -- The laws of the levels and of the refusals 4, 5 and 6.
-use mathlib.Core.Path.{_≡_, refl, sym, _∙_}
+use mathlib.Core.Path.{_≡_, refl, sym, _∙_, ap}
 use mathlib.Core.Bool.{Bool, true, false}
 use mathlib.Core.List.{List, [], _∷_, List·Memᴰ, List·Memᴰ·head, List·Memᴰ·not-nil}
 use mathlib.Core.Logic.{_↔_}
@@ -10,7 +10,7 @@ use lib.Signed.{leZ}
 use Rattle.units.specs.Range.{higher, lower}
 use Rattle.units.proofs.LevelOrder.{both-ways, le-itself, le-through, higher-bounds, lower-bounds, higher-one, lower-one}
 use Rattle.window.specs.Support.{supported}
-use Rattle.window.specs.Weighing.{Weighs, levels, refused, lengthAllowed, allAllowed, select, extreme, greatest, least, levelsOf, supportedLevels, weighing}
+use Rattle.window.specs.Weighing.{Weighs, levels, refused, refusalOf, lengthAllowed, allAllowed, select, extreme, greatest, least, levelsOf, supportedLevels, weighing}
 use Rattle.window.specs.Laws.{LevelsOf, NoneSupported}
 use Rattle.window.proofs.Extremes.{selected, is-selected, extreme-member, extreme-bounds}
 use Rattle.window.proofs.Refusals.{wrong-length, out-of-range, weighed}
@@ -51,6 +51,10 @@ module _ (window : List ℤ) where
   unfolding supportedLevels levelsOf
   six-of e = rw e
 
+  -- two different answers to one window
+  differ : {X : Type 0} {a b : Weighs} → weighing window ≡ a → weighing window ≡ b → (refusalOf a ≡ refusalOf b → ⊥) → X
+  differ e f apart = absurd (apart (sym (ap refusalOf e) ∙ ap refusalOf f))
+
   -- the four ways in which a window is answered
   data Way : Type 0 where
     four : lengthAllowed window ≡ false → weighing window ≡ refused 4 → Way
@@ -85,9 +89,9 @@ module _ (window : List ℤ) where
   levels-are high low e = go way
     where
       go : Way → LevelsOf window high low
-      go (four l w) = let clash : _≡_ {A = ℕ} 0 1 = cc in absurd (omega arith)
-      go (five l a w) = let clash : _≡_ {A = ℕ} 0 1 = cc in absurd (omega arith)
-      go (six n w) = let clash : _≡_ {A = ℕ} 0 1 = cc in absurd (omega arith)
+      go (four l w) = differ e w (λ c. omega arith)
+      go (five l a w) = differ e w (λ c. omega arith)
+      go (six n w) = differ e w (λ c. omega arith)
       go (found h l are w) =
           let same-high : h ≡ high = cc in
           let same-low : l ≡ low = cc in
@@ -99,29 +103,29 @@ module _ (window : List ℤ) where
     where
       go : weighing window ≡ refused 4 → Way → lengthAllowed window ≡ false
       go e (four l w) = l
-      go e (five l a w) = let clash : _≡_ {A = ℕ} 4 5 = cc in absurd (omega arith)
-      go e (six n w) = let clash : _≡_ {A = ℕ} 4 6 = cc in absurd (omega arith)
-      go e (found h l are w) = let clash : _≡_ {A = ℕ} 0 1 = cc in absurd (omega arith)
+      go e (five l a w) = differ e w (λ c. omega arith)
+      go e (six n w) = differ e w (λ c. omega arith)
+      go e (found h l are w) = differ e w (λ c. omega arith)
 
   -- refusal 5 comes for a reading out of range, after 4
   pub five-exactly : (weighing window ≡ refused 5) ↔ ((lengthAllowed window ≡ true) × (allAllowed window ≡ false))
   five-exactly = (λ e. go e way, λ h. out-of-range window (h .0) (h .1))
     where
       go : weighing window ≡ refused 5 → Way → (lengthAllowed window ≡ true) × (allAllowed window ≡ false)
-      go e (four l w) = let clash : _≡_ {A = ℕ} 5 4 = cc in absurd (omega arith)
+      go e (four l w) = differ e w (λ c. omega arith)
       go e (five l a w) = (l, a)
-      go e (six n w) = let clash : _≡_ {A = ℕ} 5 6 = cc in absurd (omega arith)
-      go e (found h l are w) = let clash : _≡_ {A = ℕ} 0 1 = cc in absurd (omega arith)
+      go e (six n w) = differ e w (λ c. omega arith)
+      go e (found h l are w) = differ e w (λ c. omega arith)
 
   -- "The window is refused exactly if no reading is supported", once length and readings are right
   pub six-exactly : (weighing window ≡ refused 6) ↔ NoneSupported window
   six-exactly = (λ e. go e way, λ n. back n way)
     where
       go : weighing window ≡ refused 6 → Way → NoneSupported window
-      go e (four l w) = let clash : _≡_ {A = ℕ} 6 4 = cc in absurd (omega arith)
-      go e (five l a w) = let clash : _≡_ {A = ℕ} 6 5 = cc in absurd (omega arith)
+      go e (four l w) = differ e w (λ c. omega arith)
+      go e (five l a w) = differ e w (λ c. omega arith)
       go e (six n w) = n
-      go e (found h l are w) = let clash : _≡_ {A = ℕ} 0 1 = cc in absurd (omega arith)
+      go e (found h l are w) = differ e w (λ c. omega arith)
 
       back : NoneSupported window → Way → weighing window ≡ refused 6
       back n (four l w) = both-ways (sym (n .length-right) ∙ l)

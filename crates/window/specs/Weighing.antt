@@ -12,6 +12,11 @@ pub data Weighs : Type 0 where
   levels : ℤ → ℤ → Weighs
   refused : ℕ → Weighs
 
+-- the number of the refusal, and 0 for levels
+abbrev pub refusalOf : Weighs → ℕ
+refusalOf (levels high low) = 0
+refusalOf (refused number) = number
+
 -- "256 to 1,024 readings"
 unfoldable pub lengthAllowed : List ℤ → Bool
 lengthAllowed window = fromTo 256 1024 (length window)
