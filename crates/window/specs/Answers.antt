@@ -2,8 +2,8 @@
 use Rattle.window.specs.Weighing.{Weighs, levels, refused}
 use Rattle.window.specs.declared.Weighed.{Weighed}
 use Rattle.window.specs.declared.Weighed.the-variants.{Levels, WrongLength, OutOfRange, Unsupported}
-use Rattle.window.specs.declared.Found.{Found}
-use Rattle.window.specs.declared.Found.the-variants.{Nothing, Levels as FoundLevels}
+use Rattle.window.specs.declared.search.Found.{Found}
+use Rattle.window.specs.declared.search.Found.the-variants.{Nothing, Levels as FoundLevels}
 
 abbrev pub asWeighs : Weighed → Weighs
 asWeighs (Levels high low) = levels (high .0) (low .0)

@@ -4,8 +4,8 @@ use mir.Syntax.{w32, w64}
 use mir.Val.{SFits}
 use mir.ValLaws.{toZ-ofZ}
 use Rattle.window.proofs.Sizes.{read32, read64, widens, difference-fits}
-use Rattle.window.proofs.difference.Statement.{statement}
-use Rattle.window.proofs.difference.Tie as tie
+use Rattle.window.proofs.support.difference.Statement.{statement}
+use Rattle.window.proofs.support.difference.Tie as tie
 
 cast-result : tie.Need-cast-result
 cast-result c =

@@ -5,8 +5,8 @@ use native.Mathlib.Omega.{arith}
 use lib.ListN.{length, drop}
 use Rattle.window.specs.Weighing.{allAllowed}
 use Rattle.window.proofs.Turns.{allowed-next, allowed-stops, allowed-done}
-use Rattle.window.proofs.all_allowed.Statement.{statement}
-use Rattle.window.proofs.all_allowed.Tie as tie
+use Rattle.window.proofs.readings.all_allowed.Statement.{statement}
+use Rattle.window.proofs.readings.all_allowed.Tie as tie
 
 abbrev Inv-loop : tie.InvT-loop
 Inv-loop window i₀ i = (i ≤ length window) × (allAllowed (drop i window) ≡ allAllowed window)

@@ -1,7 +1,7 @@
 -- Each arm knows the case of what was found.
 use borrow.Author.Needs.{needs}
-use Rattle.window.proofs.answer.Statement.{statement}
-use Rattle.window.proofs.answer.Tie as tie
+use Rattle.window.proofs.search.answer.Statement.{statement}
+use Rattle.window.proofs.search.answer.Tie as tie
 
 enum-told : tie.Need-enum-told
 enum-told c = search needs

@@ -5,8 +5,8 @@ use lib.IntN.{ℤ, natAbs}
 use mir.Syntax.{w64}
 use mir.ValLaws.{toZ-ofZ}
 use Rattle.window.specs.Support.{near}
-use Rattle.window.proofs.near.Statement.{statement}
-use Rattle.window.proofs.near.Tie as tie
+use Rattle.window.proofs.support.near.Statement.{statement}
+use Rattle.window.proofs.support.near.Tie as tie
 
 returns : tie.Need-returns
 unfolding near

@@ -1,8 +1,8 @@
 -- Each arm knows the case of what was found.
 use borrow.Author.Needs.{needs}
 use Rattle.window.specs.Search.{inside}
-use Rattle.window.proofs.inside.Statement.{statement}
-use Rattle.window.proofs.inside.Tie as tie
+use Rattle.window.proofs.search.inside.Statement.{statement}
+use Rattle.window.proofs.search.inside.Tie as tie
 
 enum-told : tie.Need-enum-told
 enum-told c = search needs

@@ -2,8 +2,8 @@
 use mir.Syntax.{w64}
 use mir.ValLaws.{toZ-ofZ}
 use Rattle.window.proofs.Sizes.{below-end, upper-end}
-use Rattle.window.proofs.at_most_200.Statement.{statement}
-use Rattle.window.proofs.at_most_200.Tie as tie
+use Rattle.window.proofs.support.at_most_200.Statement.{statement}
+use Rattle.window.proofs.support.at_most_200.Tie as tie
 
 returns : tie.Need-returns
 returns c =

@@ -8,26 +8,26 @@ use Rattle.window.specs.Support.{supporters, supported}
 use Rattle.window.specs.Weighing.{Weighs, supportedLevels}
 use Rattle.window.specs.Search.{widen, gather}
 use Rattle.window.specs.Answers.{asFound}
-use Rattle.window.specs.declared.Found.{Found}
+use Rattle.window.specs.declared.search.Found.{Found}
 use Rattle.window.proofs.Turns.{done}
 use Rattle.window.proofs.Counting.{some-needed, close-next, apart-next, enough, too-few}
 use Rattle.window.proofs.Gathering.{whole, gather-none, gather-passed, gather-failed, gather-kept, inside-keeps}
-use Rattle.window.proofs.levels.Statement.{statement}
-use Rattle.window.proofs.levels.Tie as tie
+use Rattle.window.proofs.search.levels.Statement.{statement}
+use Rattle.window.proofs.search.levels.Tie as tie
 
 abbrev Inv-count : tie.InvT-count
-Inv-count window n needed found₀ i level settled count₀ j₀ found count j =
-    (j ≤ length window) × (found ≡ found₀) × (count < needed) × (count + supporters (level .0) (drop j window) ≡ supporters (level .0) window)
+Inv-count window n wanted found₀ i level settled count₀ j₀ found count j =
+    (j ≤ length window) × (found ≡ found₀) × (count < wanted) × (count + supporters (level .0) (drop j window) ≡ supporters (level .0) window)
 
 abbrev μ-count : tie.MeasureT-count
-μ-count window n needed found₀ i level settled count₀ j₀ found count j = length window - j
+μ-count window n wanted found₀ i level settled count₀ j₀ found count j = length window - j
 
 abbrev Inv-loop : tie.InvT-loop
-Inv-loop window n needed found₀ i₀ found i =
+Inv-loop window n wanted found₀ i₀ found i =
     (i ≤ length window) × (gather (supported window) (asFound found) (drop i window) ≡ supportedLevels window)
 
 abbrev μ-loop : tie.MeasureT-loop
-μ-loop window n needed found₀ i₀ found i = length window - i
+μ-loop window n wanted found₀ i₀ found i = length window - i
 
 loop-holds : tie.Need-loop-holds Inv-count μ-count Inv-loop μ-loop
 loop-holds c = (omega arith, whole (c .before .args .window .now))
@@ -49,7 +49,7 @@ loop-again c =
 count-holds : tie.Need-count-holds Inv-count μ-count Inv-loop μ-loop
 count-holds c =
     let window = c .before .before .before .before .before .before .args .window .now in
-    let supports = c .before .before .before .before .before .support in
+    let supports = c .before .before .before .before .before .needed in
     (omega arith, refl, omega (arith, supports .ensures, some-needed (length window) (omega arith)), zero-add _)
 
 add-count : tie.Need-add-count Inv-count μ-count Inv-loop μ-loop
@@ -95,7 +95,7 @@ loop-less-2 c = omega arith
 loop-again-2 : tie.Need-loop-again-2 Inv-count μ-count Inv-loop μ-loop
 loop-again-2 c =
     let window = c .before .before .before .before .before .before .before .before .args .window .now in
-    let supports = c .before .before .before .before .before .before .before .support in
+    let supports = c .before .before .before .before .before .before .before .needed in
     let loop = c .before .before .before .before .before .before .loop in
     let more = c .before .before .before .before .before .loop-test .taken in
     let level = c .before .before .before .before .reading in

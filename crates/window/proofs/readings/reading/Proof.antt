@@ -3,8 +3,8 @@ use mathlib.Core.Path.{sym}
 use lib.IntN.{pos}
 use lib.ListN.{List·getD-eq-default}
 use borrow.Author.Needs.{needs}
-use Rattle.window.proofs.reading.Statement.{statement}
-use Rattle.window.proofs.reading.Tie as tie
+use Rattle.window.proofs.readings.reading.Statement.{statement}
+use Rattle.window.proofs.readings.reading.Tie as tie
 
 returns-2 : tie.Need-returns-2
 returns-2 c = sym (List·getD-eq-default (c .before .args .window .now) (pos 0) (c .if1 .left))

@@ -1,8 +1,8 @@
 -- Each arm knows the case of what was found.
 use borrow.Author.Needs.{needs}
 use Rattle.window.specs.Search.{widen}
-use Rattle.window.proofs.widened.Statement.{statement}
-use Rattle.window.proofs.widened.Tie as tie
+use Rattle.window.proofs.search.widened.Statement.{statement}
+use Rattle.window.proofs.search.widened.Tie as tie
 
 enum-told : tie.Need-enum-told
 enum-told c = search needs
