@@ -121,64 +121,84 @@ pub fn lengths() {
     weighs(b"1025 readings", &readings, 6000, 6000);
 }
 
-// Windows of 256 readings at -12000 but for the first few.
-pub fn support() {
+// A window of 256 readings at -12000, but for the first `count` at one level and the very first at another.
+fn top(name: &[u8], count: usize, level: i32, first: i32, high: i32, low: i32) {
     let mut window = [-12000; 256];
-    readings::put(&mut window, 128, 6000);
-    weighs(
+    readings::put(&mut window, count, level);
+    readings::put(&mut window, 1, first);
+    weighs(name, &window, high, low);
+}
+
+pub fn support() {
+    top(
         b"128 at 6000 give high 6000, low -12000",
-        &window,
+        128,
+        6000,
+        6000,
         6000,
         -12000,
     );
-    readings::put(&mut window, 256, -12000);
-    readings::put(&mut window, 8, 9000);
-    weighs(
+    top(
         b"8 at 9000 give high 9000, low -12000",
-        &window,
+        8,
+        9000,
+        9000,
         9000,
         -12000,
     );
-    readings::put(&mut window, 1, 9200);
-    weighs(
+    top(
+        b"7 at 9000 give high -12000, low -12000",
+        7,
+        9000,
+        9000,
+        -12000,
+        -12000,
+    );
+    top(
         b"7 at 9000 and 1 at 9200 give high 9200, low -12000",
-        &window,
+        8,
+        9000,
+        9200,
         9200,
         -12000,
     );
-    readings::put(&mut window, 1, 9201);
-    weighs(
+    top(
         b"7 at 9000 and 1 at 9201 give high -12000, low -12000",
-        &window,
+        8,
+        9000,
+        9201,
         -12000,
         -12000,
     );
-    readings::put(&mut window, 256, -12000);
-    readings::put(&mut window, 7, 9000);
-    weighs(
-        b"7 at 9000 give high -12000, low -12000",
-        &window,
-        -12000,
-        -12000,
-    );
+}
+
+// A window in groups of 7 readings, with another reading in the first place.
+fn groups(name: &[u8], first: i32) {
+    let mut window = [0; 256];
     readings::groups_of_seven(&mut window);
-    weighs(b"groups of 7, each 800 from the next", &window, 0, 0);
+    readings::put(&mut window, 1, first);
+    weighs(name, &window, 0, 0);
 }
 
 pub fn ranges() {
-    let mut window = [-15000; 256];
-    readings::put(&mut window, 128, 15000);
-    weighs(
-        b"128 at 15000, 128 at -15000 give high 15000, low -15000",
-        &window,
+    top(
+        b"128 at 15000 give high 15000, low -12000",
+        128,
         15000,
+        15000,
+        15000,
+        -12000,
+    );
+    top(b"1 at 15001", 128, 15000, 15001, 0, 0);
+    top(
+        b"128 at -15000 give high -12000, low -15000",
+        128,
+        -15000,
+        -15000,
+        -12000,
         -15000,
     );
-    readings::put(&mut window, 1, 15001);
-    weighs(b"1 at 15001", &window, 15000, -15000);
-    readings::put(&mut window, 1, -15001);
-    weighs(b"1 at -15001", &window, 15000, -15000);
-    readings::groups_of_seven(&mut window);
-    readings::put(&mut window, 1, 15001);
-    weighs(b"groups of 7 and 1 at 15001", &window, 0, 0);
+    top(b"1 at -15001", 128, -15000, -15001, 0, 0);
+    groups(b"groups of 7", -14400);
+    groups(b"groups of 7 and 1 at 15001", 15001);
 }
