@@ -11,15 +11,18 @@ use Rattle.units.specs.Range.{higher, lower}
 use Rattle.units.proofs.LevelOrder.{both-ways, le-itself, le-through, higher-bounds, lower-bounds, higher-one, lower-one}
 use Rattle.window.specs.Support.{supported}
 use Rattle.window.specs.Weighing.{Weighs, levels, refused, refusalOf, lengthAllowed, allAllowed, select, extreme, greatest, least, levelsOf, supportedLevels, weighing}
-use Rattle.window.specs.Laws.{LevelsOf, NoneSupported}
+use Rattle.window.specs.Laws.{LevelsOf, OneOutOfRange, NoneSupported}
 use Rattle.window.proofs.Extremes.{selected, is-selected, extreme-member, extreme-bounds}
-use Rattle.window.proofs.Refusals.{wrong-length, out-of-range, weighed}
+use Rattle.window.proofs.Refusals.{all-right, one-wrong, wrong-length, out-of-range, weighed}
 
 module _ (window : List ℤ) where
   -- a nonempty list of supported readings gives the levels
-  levels-of : (first : ℤ) (rest : List ℤ) → select (supported window) window ≡ first ∷ rest → LevelsOf window (greatest first rest) (least first rest)
+  levels-of : (first : ℤ) (rest : List ℤ) → select (supported window) window ≡ first ∷ rest → lengthAllowed window ≡ true → allAllowed window ≡ true
+      → LevelsOf window (greatest first rest) (least first rest)
   unfolding greatest least
-  levels-of first rest e = record {
+  levels-of first rest e l a = record {
+    length-right = l;
+    readings-right = all-right window a;
     high-reading = inWindow high-in .0;
     high-supported = inWindow high-in .1;
     low-reading = inWindow low-in .0;
@@ -58,7 +61,7 @@ module _ (window : List ℤ) where
   -- the four ways in which a window is answered
   data Way : Type 0 where
     four : lengthAllowed window ≡ false → weighing window ≡ refused 4 → Way
-    five : lengthAllowed window ≡ true → allAllowed window ≡ false → weighing window ≡ refused 5 → Way
+    five : OneOutOfRange window → weighing window ≡ refused 5 → Way
     six : NoneSupported window → weighing window ≡ refused 6 → Way
     found : (high low : ℤ) → LevelsOf window high low → weighing window ≡ levels high low → Way
 
@@ -73,12 +76,14 @@ module _ (window : List ℤ) where
           go false s = refl
 
       byList : (chosen : List ℤ) → select (supported window) window ≡ chosen → lengthAllowed window ≡ true → allAllowed window ≡ true → Way
-      byList [] e l a = six (record { length-right = l; readings-right = a; none = none e }) (weighed window l a ∙ six-of e)
-      byList (first ∷ rest) e l a = found (greatest first rest) (least first rest) (levels-of first rest e) (weighed window l a ∙ levels-by first rest e)
+      byList [] e l a = six (record { length-right = l; readings-right = all-right window a; none = none e }) (weighed window l a ∙ six-of e)
+      byList (first ∷ rest) e l a = found (greatest first rest) (least first rest) (levels-of first rest e l a) (weighed window l a ∙ levels-by first rest e)
 
       byReadings : (t : Bool) → allAllowed window ≡ t → lengthAllowed window ≡ true → Way
       byReadings true a l = byList (select (supported window) window) refl l a
-      byReadings false a l = five l a (out-of-range window l a)
+      byReadings false a l =
+          let wrong = one-wrong window a in
+          five (record { length-right = l; reading = wrong .0; in-window = wrong .1; out-of-range = wrong .2 }) (out-of-range window l a)
 
       byLength : (t : Bool) → lengthAllowed window ≡ t → Way
       byLength true l = byReadings (allAllowed window) refl l
@@ -90,7 +95,7 @@ module _ (window : List ℤ) where
     where
       go : Way → LevelsOf window high low
       go (four l w) = differ e w (λ c. omega arith)
-      go (five l a w) = differ e w (λ c. omega arith)
+      go (five o w) = differ e w (λ c. omega arith)
       go (six n w) = differ e w (λ c. omega arith)
       go (found h l are w) =
           let same-high : h ≡ high = cc in
@@ -103,19 +108,25 @@ module _ (window : List ℤ) where
     where
       go : weighing window ≡ refused 4 → Way → lengthAllowed window ≡ false
       go e (four l w) = l
-      go e (five l a w) = differ e w (λ c. omega arith)
+      go e (five o w) = differ e w (λ c. omega arith)
       go e (six n w) = differ e w (λ c. omega arith)
       go e (found h l are w) = differ e w (λ c. omega arith)
 
   -- refusal 5 comes for a reading out of range, after 4
-  pub five-exactly : (weighing window ≡ refused 5) ↔ ((lengthAllowed window ≡ true) × (allAllowed window ≡ false))
-  five-exactly = (λ e. go e way, λ h. out-of-range window (h .0) (h .1))
+  pub five-exactly : (weighing window ≡ refused 5) ↔ OneOutOfRange window
+  five-exactly = (λ e. go e way, λ o. back o way)
     where
-      go : weighing window ≡ refused 5 → Way → (lengthAllowed window ≡ true) × (allAllowed window ≡ false)
+      go : weighing window ≡ refused 5 → Way → OneOutOfRange window
       go e (four l w) = differ e w (λ c. omega arith)
-      go e (five l a w) = (l, a)
+      go e (five o w) = o
       go e (six n w) = differ e w (λ c. omega arith)
       go e (found h l are w) = differ e w (λ c. omega arith)
+
+      back : OneOutOfRange window → Way → weighing window ≡ refused 5
+      back o (four l w) = both-ways (sym (o .length-right) ∙ l)
+      back o (five p w) = w
+      back o (six n w) = both-ways (sym (n .readings-right (o .reading) (o .in-window)) ∙ o .out-of-range)
+      back o (found h l are w) = both-ways (sym (are .readings-right (o .reading) (o .in-window)) ∙ o .out-of-range)
 
   -- "The window is refused exactly if no reading is supported", once length and readings are right
   pub six-exactly : (weighing window ≡ refused 6) ↔ NoneSupported window
@@ -123,12 +134,12 @@ module _ (window : List ℤ) where
     where
       go : weighing window ≡ refused 6 → Way → NoneSupported window
       go e (four l w) = differ e w (λ c. omega arith)
-      go e (five l a w) = differ e w (λ c. omega arith)
+      go e (five o w) = differ e w (λ c. omega arith)
       go e (six n w) = n
       go e (found h l are w) = differ e w (λ c. omega arith)
 
       back : NoneSupported window → Way → weighing window ≡ refused 6
       back n (four l w) = both-ways (sym (n .length-right) ∙ l)
-      back n (five l a w) = both-ways (sym (n .readings-right) ∙ a)
+      back n (five o w) = both-ways (sym (n .readings-right (o .reading) (o .in-window)) ∙ o .out-of-range)
       back n (six m w) = w
       back n (found h l are w) = both-ways (sym (are .high-supported) ∙ n .none h (are .high-reading))

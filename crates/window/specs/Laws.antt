@@ -1,22 +1,33 @@
 -- What the answer to a window means, apart from how the definition finds it. Proved in proofs/Laws.antt.
+-- `List·Memᴰ reading window` says that the reading stands in the window.
 use mathlib.Core.Path.{_≡_}
 use mathlib.Core.Bool.{true, false}
 use mathlib.Core.List.{List, List·Memᴰ}
 use lib.IntN.{ℤ}
 use lib.Signed.{leZ}
 use Rattle.window.specs.Support.{supported}
-use Rattle.window.specs.Weighing.{lengthAllowed, allAllowed}
+use Rattle.window.specs.Weighing.{lengthAllowed, readingAllowed}
 
--- both levels are supported readings of the window, and every supported reading lies between them
+-- when levels come: length and readings are right, both levels are supported readings of the window, and every supported
+-- reading lies between them
 pub record LevelsOf (window : List ℤ) (high low : ℤ) : Type 0 where
+  pub length-right : lengthAllowed window ≡ true
+  pub readings-right : (reading : ℤ) → List·Memᴰ reading window → readingAllowed reading ≡ true
   pub high-reading : List·Memᴰ high window
   pub high-supported : supported window high ≡ true
   pub low-reading : List·Memᴰ low window
   pub low-supported : supported window low ≡ true
   pub between : (reading : ℤ) → List·Memᴰ reading window → supported window reading ≡ true → (leZ low reading ≡ true) × (leZ reading high ≡ true)
 
+-- when refusal 5 comes: the length is right, and some reading is out of range
+pub record OneOutOfRange (window : List ℤ) : Type 0 where
+  pub length-right : lengthAllowed window ≡ true
+  pub reading : ℤ
+  pub in-window : List·Memᴰ reading window
+  pub out-of-range : readingAllowed reading ≡ false
+
 -- when refusal 6 comes: length and readings are right, and no reading is supported
 pub record NoneSupported (window : List ℤ) : Type 0 where
   pub length-right : lengthAllowed window ≡ true
-  pub readings-right : allAllowed window ≡ true
+  pub readings-right : (reading : ℤ) → List·Memᴰ reading window → readingAllowed reading ≡ true
   pub none : (reading : ℤ) → List·Memᴰ reading window → supported window reading ≡ false
