@@ -1,15 +1,22 @@
 -- Demand 2's law of the duty: it is the greatest allowed one, and refusal 10 comes exactly below 6,000.
-use mathlib.Core.Path.{_≡_, refl, sym}
+use mathlib.Core.Path.{_≡_, refl, sym, _∙_, ap}
+use mathlib.Core.Bool.{Bool, true, false}
 use mathlib.Core.Logic.{_↔_}
-use mathlib.Core.Bool.{false}
 use Prim.Native.Nat.{ℕ, _+_, _*_, _-_, _/_, _≤_, _<_}
-use native.Mathlib.Omega.{arith}
 use native.Mathlib.Decide.{decLt}
-use Rattle.duty.specs.GreatestBelow.{greatestBelow}
-use Rattle.duty.specs.Reading.{current, readingOf}
+use native.Mathlib.Omega.{arith}
+use Rattle.units.proofs.LevelOrder.{both-ways}
+use Rattle.units.specs.Range.{fromTo}
+use Rattle.duty.specs.Reading.{Reads, noCharging, digitalOnly, current, refused, readingOf}
 use Rattle.duty.specs.DutyFor.{Sends, duty, refusal, allowed, orRefusal, dutyFor, IsGreatest}
+use Rattle.duty.specs.Answers.{asReads, asSends}
+use Rattle.duty.specs.declared.Reading.{Reading}
+use Rattle.duty.specs.declared.Reading.the-variants.{NoCharging, DigitalOnly, Current, AboveScale}
+use Rattle.duty.specs.declared.Greatest.{Greatest}
+use Rattle.duty.specs.declared.Greatest.the-variants.{Duty, TooLow}
+use Rattle.duty.proofs.EachBelow.{tells}
 use Rattle.duty.proofs.GreatestBelow.{is-greatest, none-greatest}
-use Rattle.duty.proofs.Ranges.{reads-lower, reads-upper, allowed-by, denied-by, denied-under}
+use Rattle.duty.proofs.Ranges.{reads-lower, reads-upper, above-scale, allowed-by, denied-by, denied-under}
 
 -- a duty from 100 to 960 reads more than the current, if the formula of its range does
 reads-more : (available e : ℕ) → 100 ≤ e → e ≤ 960 → (e ≤ 850 → available < 60 * e) → (850 < e → available < 250 * (e - 640))
@@ -69,7 +76,7 @@ module _ (available : ℕ) where
     above = λ e l m. absurd (omega arith);
   }
 
-  -- "The duty sent is the greatest allowed one whose current is not above what is available"
+  -- demand 2: from 6,000 on there is a duty, and it is the greatest
   pub greatest : 6000 ≤ available → (d : ℕ) × (dutyFor available ≡ duty d) × IsGreatest available d
   greatest h = go (decLt available 51000) (decLt available 52750) (decLt available 80000)
     where
@@ -93,7 +100,7 @@ module _ (available : ℕ) where
           let m = reads-more available e (omega arith) (omega arith) (λ u. omega arith) (λ u. omega arith) in
           denied-by available e (m .0) (omega arith) (omega arith) (m .1) (m .2)
 
-  -- refusal 10 comes "exactly if it is below 6,000"
+  -- refusal 10 comes below 6,000, and for nothing else
   pub refused-exactly : (dutyFor available ≡ refusal 10) ↔ (available < 6000)
   refused-exactly = (λ r. go r (decLt available 6000), too-low)
     where
@@ -103,3 +110,52 @@ module _ (available : ℕ) where
           let g = greatest (omega arith) in
           let clash : _≡_ {A = ℕ} 0 1 = cc (g .1) in
           absurd (omega arith)
+
+isRead : Reads → Bool
+isRead noCharging = true
+isRead digitalOnly = true
+isRead (current milliamps) = true
+isRead (refused number) = false
+
+-- every duty of the scale is read: one test, computed over all of them
+on-scale : (d : ℕ) → d < 1001 → isRead (readingOf d) ≡ true
+unfolding isRead readingOf fromTo
+on-scale d h = tells (λ (k : ℕ). isRead (readingOf k)) 1001 refl d h
+
+-- refusal 9 comes for a duty above 1000, and for nothing else
+pub nine-exactly : (d : ℕ) → (readingOf d ≡ refused 9) ↔ (1000 < d)
+unfolding isRead
+nine-exactly d = (λ r. go r (decLt 1000 d), above-scale d)
+  where
+    go : readingOf d ≡ refused 9 → Dec (1000 < d) → 1000 < d
+    go r (yes above) = above
+    go r (no within) = both-ways (sym (on-scale d (omega arith)) ∙ ap isRead r)
+
+-- an answer's meaning fixes the answer: each map has an inverse
+readingFrom : Reads → Reading
+readingFrom noCharging = NoCharging
+readingFrom digitalOnly = DigitalOnly
+readingFrom (current milliamps) = Current (record { 0 = milliamps })
+readingFrom (refused number) = AboveScale
+
+sentFrom : Sends → Greatest
+sentFrom (duty d) = Duty d
+sentFrom (refusal number) = TooLow
+
+reading-back : (r : Reading) → readingFrom (asReads r) ≡ r
+unfolding readingFrom
+reading-back NoCharging = refl
+reading-back DigitalOnly = refl
+reading-back (Current milliamps) = refl
+reading-back AboveScale = refl
+
+sent-back : (r : Greatest) → sentFrom (asSends r) ≡ r
+unfolding sentFrom
+sent-back (Duty d) = refl
+sent-back TooLow = refl
+
+pub reads-fixes : (r s : Reading) → asReads r ≡ asReads s → r ≡ s
+reads-fixes r s e = sym (reading-back r) ∙ ap readingFrom e ∙ reading-back s
+
+pub sends-fixes : (r s : Greatest) → asSends r ≡ asSends s → r ≡ s
+sends-fixes r s e = sym (sent-back r) ∙ ap sentFrom e ∙ sent-back s

@@ -1,5 +1,5 @@
 -- Laws that belong to no one function.
-pub mod Entries
+pub mod EachBelow
 pub mod GreatestBelow
 pub mod Ranges
 pub mod Laws

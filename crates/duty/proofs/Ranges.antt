@@ -1,13 +1,11 @@
 -- The reading of the duties from 100 to 960, and which of them are allowed for a current.
-use mathlib.Core.Path.{_≡_, refl}
-use mathlib.Core.Bool.{Bool, true, false, _&&_}
+use mathlib.Core.Path.{_≡_}
+use mathlib.Core.Bool.{true, false}
 use Prim.Native.Nat.{ℕ, _*_, _-_, _≤_, _<_}
 use native.Mathlib.Omega.{arith}
-use native.Mathlib.Decide.{decLt}
-use lib.Dec.{leb}
 use borrow.Author.Tests.{le-leb, lt-leb}
 use Rattle.units.proofs.FromTo.{inside, under, over}
-use Rattle.duty.specs.Reading.{Reads, current, refused, readingOf}
+use Rattle.duty.specs.Reading.{current, refused, readingOf}
 use Rattle.duty.specs.DutyFor.{atMost, allowed}
 
 pub reads-lower : (d : ℕ) → 100 ≤ d → d ≤ 850 → readingOf d ≡ current (60 * d)

@@ -20,7 +20,7 @@ atMost available digitalOnly = false
 atMost available (current milliamps) = leb milliamps available
 atMost available (refused number) = false
 
--- "d in 100 to 960 whose reading is at most it"
+-- allowed: a duty of a driven wave that tells no more than what is available
 unfoldable pub allowed : ℕ → ℕ → Bool
 allowed available d = fromTo 100 960 d && atMost available (readingOf d)
 
@@ -28,8 +28,8 @@ unfoldable pub orRefusal : ℕ → Option ℕ → Sends
 orRefusal number none = refusal number
 orRefusal number (some d) = duty d
 
--- "Duty for an available current: the greatest d in 100 to 960 whose reading is at most it"; refusal 10 where there is none.
--- That this is "exactly if it is below 6,000" is a law (proofs/Laws.antt).
+-- the duty for an available current: the greatest that is allowed, or refusal 10 where none is. When that is so is a law
+-- (proofs/Laws.antt, refused-exactly).
 unfoldable pub dutyFor : ℕ → Sends
 dutyFor available = orRefusal 10 (greatestBelow (allowed available) 961)
 

@@ -1,5 +1,4 @@
--- The reading of a duty (document 01, "Duty and current"; 001, tables A3.8 and A3.9). Duties are tenths of a percent,
--- currents milliamps.
+-- The reading of a duty (document 01, "Duty and current"). A duty is in tenths of a percent, a current in milliamps.
 use mathlib.Core.Bool.{cond}
 use lib.Dec.{eqb}
 use Prim.Native.Nat.{ℕ, _*_, _-_}
@@ -12,7 +11,7 @@ pub data Reads : Type 0 where
   current : ℕ → Reads
   refused : ℕ → Reads
 
--- "Reading of a duty d", row by row; refusal 9 is "reading asked of a duty above 1000"
+-- the reading, row by row; refusal 9 past the end of the scale
 unfoldable pub readingOf : ℕ → Reads
 readingOf d =
     cond (fromTo 0 29 d) noCharging

@@ -46,7 +46,7 @@ pub fn reading_of(duty: u32) -> Reading
     decoded(entry)
 }
 
-// The greatest duty from 100 to 960 whose reading is at most the available current.
+// The greatest duty of a driven wave that tells no more than the available current.
 pub fn duty_for(available: Milliamps) -> Greatest
     ensures { λ r. ⌜ asSends r ≡ dutyFor (available .0) ⌝ }
 {

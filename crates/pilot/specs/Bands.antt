@@ -23,38 +23,38 @@ bandE = 69
 abbrev pub noBand : ℕ
 noBand = 0
 
--- "A 11,000 to 13,000"
+-- band A
 abbrev pub inA : ℤ → Bool
 inA level = within (pos 11000) (pos 13000) level
 
--- "B 8,000 to 10,000"
+-- band B
 abbrev pub inB : ℤ → Bool
 inB level = within (pos 8000) (pos 10000) level
 
--- "C 5,000 to 7,000"
+-- band C
 abbrev pub inC : ℤ → Bool
 inC level = within (pos 5000) (pos 7000) level
 
--- "D 2,000 to 4,000"
+-- band D
 abbrev pub inD : ℤ → Bool
 inD level = within (pos 2000) (pos 4000) level
 
--- "E -1,000 to 1,000"
+-- band E
 abbrev pub inE : ℤ → Bool
 inE level = within (negℤ (pos 1000)) (pos 1000) level
 
--- "the low band -13,000 to -11,000"
+-- the low band
 abbrev pub inLowBand : ℤ → Bool
 inLowBand level = within (negℤ (pos 13000)) (negℤ (pos 11000)) level
 
--- the band of a high level; "Other high levels have no band"
+-- the band of a high level, or none
 unfoldable pub bandOf : ℤ → ℕ
 bandOf high = cond (inA high) bandA (cond (inB high) bandB (cond (inC high) bandC (cond (inD high) bandD (cond (inE high) bandE noBand))))
 
--- "A van is ready in band C, and in band D only where the post has ventilation"
+-- ready: C always, D given ventilation
 unfoldable pub ready : ℕ → Bool → Bool
 ready band ventilation = eqb band bandC || (eqb band bandD && ventilation)
 
--- "B, C or D"
+-- the bands in which a missing diode shows
 unfoldable pub isBCD : ℕ → Bool
 isBCD band = eqb band bandB || (eqb band bandC || eqb band bandD)

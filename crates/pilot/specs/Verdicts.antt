@@ -1,5 +1,4 @@
--- Verdicts on a sample (document 01, "Bands"), from the wave as commanded before the call, the high and the low level, and
--- the post's ventilation.
+-- Verdicts on a sample (document 01, "Bands"). The wave is the one commanded before the sample.
 use mathlib.Core.Bool.{Bool, _&&_, _||_, not}
 use Prim.Native.Nat.{ℕ}
 use lib.IntN.{ℤ, pos}
@@ -8,15 +7,15 @@ use Rattle.units.specs.Wave.{driven}
 use Rattle.pilot.specs.Bands.{bandOf, inLowBand, ready, isBCD}
 use Rattle.pilot.specs.declared.verdicts.Verdict.{Verdict}
 
--- "sound: high strictly between 1,500 and 7,500 and, if the wave is driven, low in the low band"
+-- sound: high as a charging van holds it, with a margin; while the wave is driven, low in its band too
 unfoldable pub sound : ℕ → ℤ → ℤ → Bool
 sound wave high low = strictlyBetween (pos 1500) (pos 7500) high && (not (driven wave) || inLowBand low)
 
--- "proven: wave driven, high in a ready band, low in the low band"
+-- proven: a driven wave shows both a ready van and its diode
 unfoldable pub proven : ℕ → ℤ → ℤ → Bool → Bool
 proven wave high low ventilation = driven wave && (ready (bandOf high) ventilation && inLowBand low)
 
--- "diode-bad: wave driven, high in B, C or D, low outside the low band"
+-- diode-bad: a driven wave shows a van that is plugged in, and no diode
 unfoldable pub diodeBad : ℕ → ℤ → ℤ → Bool
 diodeBad wave high low = driven wave && (isBCD (bandOf high) && not (inLowBand low))
 

@@ -1,8 +1,7 @@
 // Bands of levels: which band a high level is in, and what the bands tell of the van.
 use units::Millivolts;
 ghost use mathlib.Core.Path.{_≡_};
-ghost use mathlib.Core.Bool.{_&&_, _||_, cond};
-ghost use lib.Dec.{eqb};
+ghost use mathlib.Core.Bool.{cond};
 ghost use Rattle.pilot.specs.Bands.{bandA, bandB, bandC, bandD, bandE, noBand, inLowBand, bandOf, ready, isBCD};
 
 // The low level of a driven wave, where the van has a sound diode.

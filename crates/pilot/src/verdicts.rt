@@ -40,7 +40,7 @@ fn diode_bad_by(driven: bool, bcd: bool, low: bool) -> bool
     }
 }
 
-// Sound: high strictly between 1,500 and 7,500 and, if the wave is driven, low in the low band.
+// Sound: high as a charging van holds it, with a margin; while the wave is driven, low in its band too.
 pub fn sound(wave: u32, high: Millivolts, low: Millivolts) -> bool
     ensures { λ r. ⌜ r ≡ sound wave (high .0) (low .0) ⌝ }
 {
@@ -50,7 +50,7 @@ pub fn sound(wave: u32, high: Millivolts, low: Millivolts) -> bool
     sound_by(between, driven, low_in_band)
 }
 
-// Proven: wave driven, high in a ready band, low in the low band.
+// Proven: a driven wave shows both a ready van and its diode.
 pub fn proven(wave: u32, high: Millivolts, low: Millivolts, ventilation: bool) -> bool
     ensures { λ r. ⌜ r ≡ proven wave (high .0) (low .0) ventilation ⌝ }
 {
@@ -61,7 +61,7 @@ pub fn proven(wave: u32, high: Millivolts, low: Millivolts, ventilation: bool) -
     all(driven, ready, low_in_band)
 }
 
-// Diode-bad: wave driven, high in B, C or D, low outside the low band.
+// Diode-bad: a driven wave shows a van that is plugged in, and no diode.
 pub fn diode_bad(wave: u32, high: Millivolts, low: Millivolts) -> bool
     ensures { λ r. ⌜ r ≡ diodeBad wave (high .0) (low .0) ⌝ }
 {
@@ -72,7 +72,7 @@ pub fn diode_bad(wave: u32, high: Millivolts, low: Millivolts) -> bool
     diode_bad_by(driven, bcd, low_in_band)
 }
 
-// The band and the verdicts of a sample, under the wave as commanded before the call.
+// The band and the verdicts of a sample, under the wave commanded before it.
 pub fn judge(wave: u32, high: Millivolts, low: Millivolts, ventilation: bool) -> Verdict
     ensures { λ r. ⌜ r ≡ verdictOf wave (high .0) (low .0) ventilation ⌝ }
 {

@@ -5,15 +5,15 @@ use lib.Dec.{leb}
 use lib.IntN.{ℤ}
 use lib.Signed.{leZ, ltZ}
 
--- "Ends belong to the band": a level from one end to the other, both included
+-- in a band: from one end to the other, both included
 unfoldable pub within : ℤ → ℤ → ℤ → Bool
 within from to level = leZ from level && leZ level to
 
--- "strictly between": a level between two others, neither included
+-- strictly between two levels: neither included
 unfoldable pub strictlyBetween : ℤ → ℤ → ℤ → Bool
 strictlyBetween from to level = ltZ from level && ltZ level to
 
--- "d in 100 to 960": a number from one end to the other, both included
+-- a number from one end to the other, both included
 unfoldable pub fromTo : ℕ → ℕ → ℕ → Bool
 fromTo from to n = leb from n && leb n to
 

@@ -1,5 +1,5 @@
-// The units of the control pilot: level, current and time. Each is a type of its own, so that millivolts, milliamps and
-// milliseconds never stand in for one another. A duty, and so a wave command, is a plain number in tenths of a percent.
+// The units of the control pilot: level, current and time. Each is a type of its own, so that the compiler refuses one in the
+// place of another. A duty, and so a wave command, is a plain number: tenths of a percent.
 ghost use mathlib.Core.Path.{_≡_};
 ghost use mathlib.Core.Bool.{_&&_, cond};
 ghost use Prim.Native.Nat.{_+_, min};
@@ -93,10 +93,10 @@ impl Milliamps {
 }
 
 impl Millis {
-    pub fn before(self, other: Millis) -> bool
-        ensures { λ r. ⌜ r ≡ ltb (self .0) (other .0) ⌝ }
+    pub fn before(self, later: Millis) -> bool
+        ensures { λ r. ⌜ r ≡ ltb (self .0) (later .0) ⌝ }
     {
-        self.0 < other.0
+        self.0 < later.0
     }
 
     // At `now`, this time lies `span` or more ago. Total: no sum is made that could overflow.

@@ -1,16 +1,19 @@
 -- The laws of the levels and of the refusals 4, 5 and 6.
 use mathlib.Core.Path.{_≡_, refl, sym, _∙_, ap}
-use mathlib.Core.Bool.{Bool, true, false}
-use mathlib.Core.List.{List, [], _∷_, List·Memᴰ, List·Memᴰ·head, List·Memᴰ·not-nil}
+use mathlib.Core.Bool.{Bool, true, false, cond}
+use mathlib.Core.List.{List, [], _∷_, List·Memᴰ, List·Memᴰ·not-nil}
 use mathlib.Core.Logic.{_↔_}
-use Prim.Native.Nat.{ℕ}
 use native.Mathlib.Omega.{arith}
+use lib.Dec.{eqb}
 use lib.IntN.{ℤ}
 use lib.Signed.{leZ}
 use Rattle.units.specs.Range.{higher, lower}
 use Rattle.units.proofs.LevelOrder.{both-ways, le-itself, le-through, higher-bounds, lower-bounds, higher-one, lower-one}
 use Rattle.window.specs.Support.{supported}
 use Rattle.window.specs.Weighing.{Weighs, levels, refused, refusalOf, lengthAllowed, allAllowed, select, extreme, greatest, least, levelsOf, supportedLevels, weighing}
+use Rattle.window.specs.Answers.{asWeighs}
+use Rattle.window.specs.declared.Weighed.{Weighed}
+use Rattle.window.specs.declared.Weighed.the-variants.{Levels, WrongLength, OutOfRange, Unsupported}
 use Rattle.window.specs.Laws.{LevelsOf, OneOutOfRange, NoneSupported}
 use Rattle.window.proofs.Extremes.{selected, is-selected, extreme-member, extreme-bounds}
 use Rattle.window.proofs.Refusals.{all-right, one-wrong, wrong-length, out-of-range, weighed}
@@ -89,7 +92,7 @@ module _ (window : List ℤ) where
       byLength true l = byReadings (allAllowed window) refl l
       byLength false l = four l (wrong-length window l)
 
-  -- "The high level is the greatest supported reading, the low level the least"
+  -- what the two levels are
   pub levels-are : (high low : ℤ) → weighing window ≡ levels high low → LevelsOf window high low
   levels-are high low e = go way
     where
@@ -128,7 +131,7 @@ module _ (window : List ℤ) where
       back o (six n w) = both-ways (sym (n .readings-right (o .reading) (o .in-window)) ∙ o .out-of-range)
       back o (found h l are w) = both-ways (sym (are .readings-right (o .reading) (o .in-window)) ∙ o .out-of-range)
 
-  -- "The window is refused exactly if no reading is supported", once length and readings are right
+  -- refusal 6 comes where nothing has support, once length and readings are right
   pub six-exactly : (weighing window ≡ refused 6) ↔ NoneSupported window
   six-exactly = (λ e. go e way, λ n. back n way)
     where
@@ -143,3 +146,18 @@ module _ (window : List ℤ) where
       back n (five o w) = both-ways (sym (n .readings-right (o .reading) (o .in-window)) ∙ o .out-of-range)
       back n (six m w) = w
       back n (found h l are w) = both-ways (sym (are .high-supported) ∙ n .none h (are .high-reading))
+
+-- an answer's meaning fixes the answer: the map has an inverse
+weighedFrom : Weighs → Weighed
+weighedFrom (levels high low) = Levels (record { 0 = high }) (record { 0 = low })
+weighedFrom (refused number) = cond (eqb number 4) WrongLength (cond (eqb number 5) OutOfRange Unsupported)
+
+weighed-back : (r : Weighed) → weighedFrom (asWeighs r) ≡ r
+unfolding weighedFrom
+weighed-back (Levels high low) = refl
+weighed-back WrongLength = refl
+weighed-back OutOfRange = refl
+weighed-back Unsupported = refl
+
+pub weighs-fixes : (r s : Weighed) → asWeighs r ≡ asWeighs s → r ≡ s
+weighs-fixes r s e = sym (weighed-back r) ∙ ap weighedFrom e ∙ weighed-back s

@@ -8,8 +8,8 @@ use lib.Signed.{leZ}
 use Rattle.window.specs.Support.{supported}
 use Rattle.window.specs.Weighing.{lengthAllowed, readingAllowed}
 
--- when levels come: length and readings are right, both levels are supported readings of the window, and every supported
--- reading lies between them
+-- when levels come: length and readings are right, each level stands in the window with its support, and nothing with support
+-- lies outside the two
 pub record LevelsOf (window : List ℤ) (high low : ℤ) : Type 0 where
   pub length-right : lengthAllowed window ≡ true
   pub readings-right : (reading : ℤ) → List·Memᴰ reading window → readingAllowed reading ≡ true

@@ -1,7 +1,6 @@
 -- How the search for the levels goes on: the levels found so far, with one more reading.
 use mathlib.Core.Bool.{Bool, false, cond}
 use mathlib.Core.List.{List, [], _∷_}
-use Prim.Native.Nat.{ℕ}
 use lib.IntN.{ℤ}
 use Rattle.units.specs.Range.{within, higher, lower}
 use Rattle.window.specs.Weighing.{Weighs, levels, refused}

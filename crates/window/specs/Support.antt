@@ -6,21 +6,21 @@ use lib.Dec.{leb}
 use lib.IntN.{ℤ, _-ℤ_, natAbs}
 use lib.ListN.{length}
 
--- two readings "differ .. by at most 200 mV"
+-- two readings near one another
 unfoldable pub near : ℤ → ℤ → Bool
 near a b = leb (natAbs (a -ℤ b)) 200
 
--- how many readings of a window are near one reading, "itself counted"
+-- how many readings of a window are near one reading; it is near itself
 unfoldable pub supporters : ℤ → List ℤ → ℕ
 supporters reading [] = 0
 supporters reading (other ∷ others) =
     let rest = supporters reading others in
     cond (near reading other) (suc rest) rest
 
--- how many supporters a reading needs in a window of n readings: "at least 8"
+-- how many supporters a reading needs in a window of n readings
 unfoldable pub needed : ℕ → ℕ
 needed n = 8
 
--- "A reading is supported if at least 8 readings of the window, itself counted, differ from it by at most 200 mV"
+-- supported: a reading with as many supporters as the window asks for
 unfoldable pub supported : List ℤ → ℤ → Bool
 supported window reading = leb (needed (length window)) (supporters reading window)

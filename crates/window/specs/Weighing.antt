@@ -17,11 +17,11 @@ abbrev pub refusalOf : Weighs → ℕ
 refusalOf (levels high low) = 0
 refusalOf (refused number) = number
 
--- "256 to 1,024 readings"
+-- the window's length
 unfoldable pub lengthAllowed : List ℤ → Bool
 lengthAllowed window = fromTo 256 1024 (length window)
 
--- "each -15,000 to 15,000 mV"
+-- the range of a reading
 abbrev pub readingAllowed : ℤ → Bool
 readingAllowed reading = within (negℤ (pos 15000)) (pos 15000) reading
 
@@ -47,7 +47,7 @@ greatest first readings = extreme higher first readings
 unfoldable pub least : ℤ → List ℤ → ℤ
 least first readings = extreme lower first readings
 
--- "The high level is the greatest supported reading, the low level the least"; refusal 6: "no supported reading"
+-- the high and the low level of the supported readings; refusal 6 where there is none
 unfoldable pub levelsOf : List ℤ → Weighs
 levelsOf [] = refused 6
 levelsOf (reading ∷ readings) = levels (greatest reading readings) (least reading readings)
@@ -56,7 +56,7 @@ levelsOf (reading ∷ readings) = levels (greatest reading readings) (least read
 unfoldable pub supportedLevels : List ℤ → Weighs
 supportedLevels window = levelsOf (select (supported window) window)
 
--- a window weighed; refusals 4 "window length", 5 "a reading out of range" and 6, in this order
+-- a window weighed: refusal 4 for its length, then 5 for a reading, then 6
 unfoldable pub weighing : List ℤ → Weighs
 weighing window =
     cond (not (lengthAllowed window)) (refused 4)

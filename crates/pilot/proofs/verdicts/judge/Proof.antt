@@ -1,5 +1,4 @@
 -- What the calls ensure, put together, is the definition.
-use mathlib.Core.Path.{_∙_}
 use Rattle.pilot.specs.Verdicts.{verdictOf}
 use Rattle.pilot.proofs.verdicts.judge.Statement.{statement}
 use Rattle.pilot.proofs.verdicts.judge.Tie as tie
