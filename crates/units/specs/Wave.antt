@@ -3,14 +3,6 @@ use mathlib.Core.Bool.{Bool}
 use Prim.Native.Nat.{ℕ}
 use Rattle.units.specs.Range.{fromTo}
 
--- steady -12 V, state F
-abbrev pub steadyLow : ℕ
-steadyLow = 0
-
--- steady +12 V
-abbrev pub steadyHigh : ℕ
-steadyHigh = 1000
-
 -- driven: the wave is a square wave
 unfoldable pub driven : ℕ → Bool
 driven wave = fromTo 100 960 wave

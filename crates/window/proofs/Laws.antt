@@ -4,19 +4,25 @@ use mathlib.Core.Bool.{Bool, true, false, cond}
 use mathlib.Core.List.{List, [], _∷_, List·Memᴰ, List·Memᴰ·not-nil}
 use mathlib.Core.Logic.{_↔_}
 use native.Mathlib.Omega.{arith}
+use Prim.Native.Nat.{ℕ}
 use lib.Dec.{eqb}
 use lib.IntN.{ℤ}
 use lib.Signed.{leZ}
 use Rattle.units.specs.Range.{higher, lower}
 use Rattle.units.proofs.LevelOrder.{both-ways, le-itself, le-through, higher-bounds, lower-bounds, higher-one, lower-one}
 use Rattle.window.specs.Support.{supported}
-use Rattle.window.specs.Weighing.{Weighs, levels, refused, refusalOf, lengthAllowed, allAllowed, select, extreme, greatest, least, levelsOf, supportedLevels, weighing}
+use Rattle.window.specs.Weighing.{Weighs, levels, refused, lengthAllowed, allAllowed, select, extreme, greatest, least, levelsOf, supportedLevels, weighing}
 use Rattle.window.specs.Answers.{asWeighs}
 use Rattle.window.specs.declared.Weighed.{Weighed}
 use Rattle.window.specs.declared.Weighed.the-variants.{Levels, WrongLength, OutOfRange, Unsupported}
 use Rattle.window.specs.Laws.{LevelsOf, OneOutOfRange, NoneSupported}
 use Rattle.window.proofs.Extremes.{selected, is-selected, extreme-member, extreme-bounds}
 use Rattle.window.proofs.Refusals.{all-right, one-wrong, wrong-length, out-of-range, weighed}
+
+-- a number that tells the answers apart
+tagOf : Weighs → ℕ
+tagOf (levels high low) = 0
+tagOf (refused number) = number
 
 module _ (window : List ℤ) where
   -- a nonempty list of supported readings gives the levels
@@ -58,8 +64,8 @@ module _ (window : List ℤ) where
   six-of e = rw e
 
   -- two different answers to one window
-  differ : {X : Type 0} {a b : Weighs} → weighing window ≡ a → weighing window ≡ b → (refusalOf a ≡ refusalOf b → ⊥) → X
-  differ e f apart = absurd (apart (sym (ap refusalOf e) ∙ ap refusalOf f))
+  differ : {X : Type 0} {a b : Weighs} → weighing window ≡ a → weighing window ≡ b → (tagOf a ≡ tagOf b → ⊥) → X
+  differ e f apart = absurd (apart (sym (ap tagOf e) ∙ ap tagOf f))
 
   -- the four ways in which a window is answered
   data Way : Type 0 where
@@ -94,6 +100,7 @@ module _ (window : List ℤ) where
 
   -- what the two levels are
   pub levels-are : (high low : ℤ) → weighing window ≡ levels high low → LevelsOf window high low
+  unfolding tagOf
   levels-are high low e = go way
     where
       go : Way → LevelsOf window high low
@@ -107,6 +114,7 @@ module _ (window : List ℤ) where
 
   -- refusal 4 comes for the length, and for nothing else
   pub four-exactly : (weighing window ≡ refused 4) ↔ (lengthAllowed window ≡ false)
+  unfolding tagOf
   four-exactly = (λ e. go e way, wrong-length window)
     where
       go : weighing window ≡ refused 4 → Way → lengthAllowed window ≡ false
@@ -117,6 +125,7 @@ module _ (window : List ℤ) where
 
   -- refusal 5 comes for a reading out of range, after 4
   pub five-exactly : (weighing window ≡ refused 5) ↔ OneOutOfRange window
+  unfolding tagOf
   five-exactly = (λ e. go e way, λ o. back o way)
     where
       go : weighing window ≡ refused 5 → Way → OneOutOfRange window
@@ -133,6 +142,7 @@ module _ (window : List ℤ) where
 
   -- refusal 6 comes where nothing has support, once length and readings are right
   pub six-exactly : (weighing window ≡ refused 6) ↔ NoneSupported window
+  unfolding tagOf
   six-exactly = (λ e. go e way, λ n. back n way)
     where
       go : weighing window ≡ refused 6 → Way → NoneSupported window

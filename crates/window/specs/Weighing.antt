@@ -12,11 +12,6 @@ pub data Weighs : Type 0 where
   levels : ℤ → ℤ → Weighs
   refused : ℕ → Weighs
 
--- the number of the refusal, and 0 for levels
-abbrev pub refusalOf : Weighs → ℕ
-refusalOf (levels high low) = 0
-refusalOf (refused number) = number
-
 -- the window's length
 unfoldable pub lengthAllowed : List ℤ → Bool
 lengthAllowed window = fromTo 256 1024 (length window)
