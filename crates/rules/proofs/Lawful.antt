@@ -1,0 +1,85 @@
+-- The laws of one call that the list theorem rests on. Requests that change a step touch these laws and not the theorem.
+use mathlib.Core.Path.{_≡_, refl, sym, _∙_, ap}
+use mathlib.Core.Bool.{Bool, true, false, _&&_, _||_, not, cond}
+use Prim.Native.Nat.{ℕ, zero, suc, _+_, _≤_, _<_}
+use Rattle.pilot.specs.Bands.{noBand}
+use Rattle.rules.specs.Begin.{largestTime}
+use Rattle.rules.specs.Claim.{Trace}
+use Rattle.rules.specs.State.{Moment, Previous, setTo}
+use Rattle.rules.specs.Step5Closing.{closingsBy}
+use Rattle.rules.proofs.Booleans.{clash}
+
+-- what is kept before call k, beside what the claim speaks of
+pub record Kept : Type 0 where
+  pub last : ℕ → ℕ
+  pub opening : ℕ → Moment
+  pub previous : ℕ → Previous
+
+module _ (t : Trace) (kept : Kept) where
+  -- what a call shows that meets every closing condition
+  pub record Meets (k : ℕ) : Type 0 where
+    pub was-open : t .told k ≡ false
+    pub sampled : t .sampled k ≡ true
+    pub partner : kept .previous k .kept ≡ true
+    pub first-proven : kept .previous k .verdict .proven ≡ true
+    pub second-proven : t .verdict k .proven ≡ true
+    pub one-band : kept .previous k .verdict .band ≡ t .verdict k .band
+    pub has-band : t .verdict k .band ≡ noBand → ⊥
+    pub rested : kept .opening k .set ≡ true → kept .opening k .time + t .pause ≤ t .time k
+
+  pub record Law (k : ℕ) : Type 0 where
+    pub told-next : t .told (suc k) ≡ cond (t .accepted k) ((t .told k && not (t .cause k)) || t .closes k) (t .told k)
+    pub carried-next : t .carried (suc k) ≡ closingsBy (t .accepted k && t .closes k) (t .carried k)
+    pub last-next : kept .last (suc k) ≡ cond (t .accepted k) (t .time k) (kept .last k)
+    pub opening-next : kept .opening (suc k) ≡ cond (t .accepted k && (t .told k && t .cause k)) (setTo (t .time k)) (kept .opening k)
+    -- an opening forgets the previous sample; else the last accepted sample is the one that is kept, if any is
+    pub previous-opened : t .accepted k ≡ true → t .told k ≡ true → t .cause k ≡ true → kept .previous (suc k) .kept ≡ false
+    pub previous-sample : t .accepted k ≡ true → t .sampled k ≡ true → kept .previous (suc k) .kept ≡ true
+        → kept .previous (suc k) .verdict ≡ t .verdict k
+    pub previous-other : t .accepted k ≡ true → t .sampled k ≡ false → kept .previous (suc k) .kept ≡ true
+        → kept .previous (suc k) ≡ kept .previous k
+    pub previous-refused : t .accepted k ≡ false → kept .previous (suc k) ≡ kept .previous k
+    -- the clock
+    pub not-back : t .accepted k ≡ true → kept .last k ≤ t .time k
+    pub not-late : t .accepted k ≡ true → t .time k ≤ largestTime
+    pub meets : t .closes k ≡ true → Meets k
+
+  pub record Lawful : Type 0 where
+    pub starts-open : t .told 0 ≡ false
+    pub starts-at-none : t .carried 0 ≡ 0
+    pub starts-alone : kept .previous 0 .kept ≡ false
+    pub each : (k : ℕ) → k < t .length → Law k
+    pub pause-least : 1000 ≤ t .pause
+
+  -- the four outcomes of a call
+  pub data Outcome (k : ℕ) : Type 0 where
+    refused : t .accepted k ≡ false → t .told (suc k) ≡ t .told k → kept .opening (suc k) ≡ kept .opening k → Outcome k
+    stays : t .accepted k ≡ true → t .told (suc k) ≡ t .told k → kept .opening (suc k) ≡ kept .opening k
+        → (t .told k ≡ true → t .cause k ≡ false) → t .closes k ≡ false → Outcome k
+    shuts : t .accepted k ≡ true → t .told k ≡ false → t .told (suc k) ≡ true → kept .opening (suc k) ≡ kept .opening k
+        → t .closes k ≡ true → Outcome k
+    opens : t .accepted k ≡ true → t .told k ≡ true → t .told (suc k) ≡ false → kept .opening (suc k) ≡ setTo (t .time k)
+        → t .cause k ≡ true → t .closes k ≡ false → kept .previous (suc k) .kept ≡ false → Outcome k
+
+  pub outcome : (k : ℕ) → Law k → Outcome k
+  outcome k law = go (t .accepted k) (t .told k) (t .cause k) (t .closes k) refl refl refl refl
+    where
+      next : (a c r m : Bool) → t .accepted k ≡ a → t .told k ≡ c → t .cause k ≡ r → t .closes k ≡ m
+          → t .told (suc k) ≡ cond a ((c && not r) || m) c
+      next a c r m ea ec er em = law .told-next ∙ rw (ea, ec, er, em)
+
+      moved : (a c r : Bool) → t .accepted k ≡ a → t .told k ≡ c → t .cause k ≡ r
+          → kept .opening (suc k) ≡ cond (a && (c && r)) (setTo (t .time k)) (kept .opening k)
+      moved a c r ea ec er = law .opening-next ∙ rw (ea, ec, er)
+
+      go : (a c r m : Bool) → t .accepted k ≡ a → t .told k ≡ c → t .cause k ≡ r → t .closes k ≡ m → Outcome k
+      go false c r m ea ec er em = refused ea (next false c r m ea ec er em ∙ sym ec) (moved false c r ea ec er)
+      go true true true true ea ec er em = clash ec (law .meets em .was-open)
+      go true true false true ea ec er em = clash ec (law .meets em .was-open)
+      go true true true false ea ec er em =
+          opens ea ec (next true true true false ea ec er em) (moved true true true ea ec er) er em (law .previous-opened ea ec er)
+      go true true false false ea ec er em =
+          stays ea (next true true false false ea ec er em ∙ sym ec) (moved true true false ea ec er) (λ c. er) em
+      go true false r true ea ec er em = shuts ea ec (next true false r true ea ec er em) (moved true false r ea ec er) em
+      go true false r false ea ec er em =
+          stays ea (next true false r false ea ec er em ∙ sym ec) (moved true false r ea ec er) (λ c. clash c ec) em

@@ -1,0 +1,8 @@
+-- Laws of one call, and the theorems over every list.
+pub mod Booleans
+pub mod Lawful
+pub mod Exactly
+pub mod Remembered
+pub mod Rests
+pub mod Spacing
+pub mod Demand3

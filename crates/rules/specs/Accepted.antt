@@ -1,0 +1,74 @@
+-- An accepted call: steps 1 to 5 in their order, and what is kept at its end (document 01, demand 3).
+use mathlib.Core.Bool.{Bool, true, _&&_, _||_, not, cond}
+use Prim.Native.Nat.{ℕ}
+use Rattle.rules.specs.Calls.{Heard, isFault}
+use Rattle.rules.specs.Pairs.{Pair, pairOf}
+use Rattle.rules.specs.Step1Event.{stepEvent}
+use Rattle.rules.specs.Step2Latches.{unsettles, stepLatch}
+use Rattle.rules.specs.Step3Wave.{stepWave}
+use Rattle.rules.specs.Step4Opening.{cause, opens, stepOpening}
+use Rattle.rules.specs.Step5Closing.{closes, stepClosing}
+use Rattle.rules.specs.State.{State, Previous}
+
+-- at the end the call's time is kept, and a sample becomes the previous one unless its call forgot the previous sample
+abbrev pub stepEnd : Bool → ℕ → Pair → State → State
+stepEnd forgot now pair s =
+    record {
+      settings = s .settings;
+      limit = s .limit;
+      wave = s .wave;
+      closed = s .closed;
+      settled = s .settled;
+      faults = s .faults;
+      last = now;
+      sound = s .sound;
+      opening = s .opening;
+      overrun = s .overrun;
+      stop = s .stop;
+      previous = cond (pair .sampled && not forgot) (record { kept = true; verdict = pair .this }) (s .previous);
+    }
+
+module _ (s : State) (call : Heard) where
+  -- the pair of the call: its own sample and the previous one as kept before it
+  abbrev pub pairAt : Pair
+  pairAt = pairOf s (call .event)
+
+  -- after step 1
+  abbrev pub afterEvent : State
+  afterEvent = stepEvent (call .time) (call .event) pairAt s
+
+  -- the call unsettles, in step 2
+  abbrev pub unsettlesAt : Bool
+  unsettlesAt = unsettles (isFault (call .event)) (call .time) pairAt afterEvent
+
+  -- after step 2
+  abbrev pub afterLatch : State
+  afterLatch = stepLatch (isFault (call .event)) (call .time) pairAt afterEvent
+
+  -- after step 3
+  abbrev pub afterWave : State
+  afterWave = stepWave (call .time) afterLatch
+
+  -- an opening cause holds, in step 4
+  abbrev pub causeAt : Bool
+  causeAt = cause (call .time) pairAt afterWave
+
+  -- the call opens the contactor
+  abbrev pub opensAt : Bool
+  opensAt = opens (call .time) pairAt afterWave
+
+  -- after step 4
+  abbrev pub afterOpening : State
+  afterOpening = stepOpening (call .time) pairAt afterWave
+
+  -- the call meets every closing condition, in step 5
+  abbrev pub closesAt : Bool
+  closesAt = closes opensAt (call .time) pairAt afterOpening
+
+  -- after step 5
+  abbrev pub afterClosing : State
+  afterClosing = stepClosing opensAt (call .time) pairAt afterOpening
+
+  -- what is kept of an accepted call
+  abbrev pub accept : State
+  accept = stepEnd (unsettlesAt || opensAt) (call .time) pairAt afterClosing

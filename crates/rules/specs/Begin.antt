@@ -1,0 +1,55 @@
+-- Begin (document 01, "The calls"): its values, its refusals and the fresh controller.
+use mathlib.Core.Bool.{Bool, false, _&&_, _||_, not, cond}
+use Prim.Native.Nat.{ℕ}
+use lib.Dec.{eqb, ltb}
+use Rattle.units.specs.Range.{fromTo}
+use Rattle.rules.specs.State.{State, noFaults, empty, forgotten}
+
+pub record Begin : Type 0 where
+  pub time : ℕ
+  pub rated : ℕ
+  pub pause : ℕ
+  pub ventilation : Bool
+
+-- times run from 0 to this one
+abbrev pub largestTime : ℕ
+largestTime = 1000000000000
+
+-- what the pause 0 means
+abbrev pub defaultPause : ℕ
+defaultPause = 3000
+
+unfoldable pub ratedAllowed : ℕ → Bool
+ratedAllowed rated = fromTo 6000 80000 rated
+
+-- the range of a pause in force
+unfoldable pub pauseAllowed : ℕ → Bool
+pauseAllowed pause = fromTo 1000 60000 pause
+
+-- the pause in force, and stored
+unfoldable pub pauseFor : ℕ → ℕ
+pauseFor pause = cond (eqb pause 0) defaultPause pause
+
+-- refusal 3, then 1; 0 if begin is accepted
+unfoldable pub beginRefusal : Begin → ℕ
+beginRefusal begin =
+    cond (ltb largestTime (begin .time)) 3
+    (cond (ratedAllowed (begin .rated) && (eqb (begin .pause) 0 || pauseAllowed (begin .pause))) 0 1)
+
+-- the fresh controller: its wave is steady +12 V
+unfoldable pub fresh : Begin → State
+fresh begin =
+    record {
+      settings = record { rated = begin .rated; pause = pauseFor (begin .pause); ventilation = begin .ventilation };
+      limit = 0;
+      wave = 1000;
+      closed = false;
+      settled = 0;
+      faults = noFaults;
+      last = begin .time;
+      sound = empty;
+      opening = empty;
+      overrun = empty;
+      stop = empty;
+      previous = forgotten;
+    }

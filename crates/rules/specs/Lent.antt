@@ -1,0 +1,47 @@
+-- A lent controller: what the replay keeps, with the closings that the controller carries; and refusal 1.
+use mathlib.Core.Bool.{Bool, _&&_, _||_, not, cond}
+use Prim.Native.Nat.{ℕ}
+use lib.Dec.{eqb, leb}
+use Rattle.units.specs.Wave.{driven}
+use Rattle.rules.specs.Begin.{ratedAllowed, pauseAllowed}
+use Rattle.rules.specs.Calls.{Heard}
+use Rattle.rules.specs.Refusals.{orElse, timeRefusal, limitAllowed, argumentRefusal}
+use Rattle.rules.specs.State.{State, Moment}
+use Rattle.rules.specs.Step3Wave.{steadyLow, steadyHigh}
+
+pub record Lent : Type 0 where
+  pub kept : State
+  pub closings : ℕ
+
+-- the most closings that a list leads to
+abbrev pub mostClosings : ℕ
+mostClosings = 1000000001
+
+-- the wave's range
+unfoldable pub waveAllowed : ℕ → Bool
+waveAllowed wave = eqb wave steadyLow || (driven wave || eqb wave steadyHigh)
+
+-- a stored time that is not above the last accepted one; an empty one is no stored time
+unfoldable pub storedAllowed : ℕ → Moment → Bool
+storedAllowed last stored = not (stored .set) || leb (stored .time) last
+
+unfoldable pub timesAllowed : State → Bool
+timesAllowed s =
+    storedAllowed (s .last) (s .sound)
+    && (storedAllowed (s .last) (s .opening)
+    && (storedAllowed (s .last) (s .overrun) && storedAllowed (s .last) (s .stop)))
+
+unfoldable pub inRange : State → Bool
+inRange s =
+    waveAllowed (s .wave)
+    && (limitAllowed (s .limit)
+    && (ratedAllowed (s .settings .rated) && (pauseAllowed (s .settings .pause) && timesAllowed s)))
+
+-- a controller that the host has altered
+unfoldable pub altered : Lent → Bool
+altered lent = not (inRange (lent .kept) && leb (lent .closings) mostClosings)
+
+-- the refusal of a call that is lent a controller: 3, then 2, then 1, then 4 to 8
+unfoldable pub lentRefusal : Lent → Heard → ℕ
+lentRefusal lent call =
+    orElse (timeRefusal (lent .kept) (call .time)) (orElse (cond (altered lent) 1 0) (argumentRefusal (call .event)))

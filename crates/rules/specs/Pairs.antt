@@ -1,0 +1,53 @@
+-- This and the previous sample (document 01, "Bands"): two successive accepted samples, with nothing forgotten between them.
+use mathlib.Core.Bool.{Bool, _&&_, not}
+use Prim.Native.Nat.{ℕ}
+use lib.Dec.{eqb}
+use Rattle.pilot.specs.declared.verdicts.Verdict.{Verdict}
+use Rattle.pilot.specs.Bands.{noBand}
+use Rattle.pilot.specs.Verdicts.{verdictOf}
+use Rattle.window.specs.Weighing.{Weighs, levels, refused}
+use Rattle.rules.specs.Calls.{Event, sample, limit, measure, fault, clear, tick, isSample}
+use Rattle.rules.specs.State.{State, Previous, noVerdict}
+
+-- the call's own verdict, and the previous sample as it was kept before the call
+pub record Pair : Type 0 where
+  pub sampled : Bool
+  pub this : Verdict
+  pub previous : Previous
+
+-- a sample's verdict: from its levels and from the ventilation and wave kept before the call
+unfoldable pub verdict : State → Event Weighs → Verdict
+verdict s (sample (levels high low)) = verdictOf (s .wave) high low (s .settings .ventilation)
+verdict s (sample (refused number)) = noVerdict
+verdict s (limit current) = noVerdict
+verdict s (measure current) = noVerdict
+verdict s (fault kind) = noVerdict
+verdict s clear = noVerdict
+verdict s tick = noVerdict
+
+abbrev pub pairOf : State → Event Weighs → Pair
+pairOf s event = record { sampled = isSample event; this = verdict s event; previous = s .previous }
+
+-- a sample call with a partner
+unfoldable pub paired : Pair → Bool
+paired pair = pair .sampled && pair .previous .kept
+
+-- the same band: not two samples without a band
+unfoldable pub sameBand : ℕ → ℕ → Bool
+sameBand a b = not (eqb a noBand) && eqb a b
+
+-- in one band
+unfoldable pub inOneBand : Pair → Bool
+inOneBand pair = paired pair && sameBand (pair .previous .verdict .band) (pair .this .band)
+
+-- both proven in the same band
+unfoldable pub bothProven : Pair → Bool
+bothProven pair = inOneBand pair && (pair .previous .verdict .proven && pair .this .proven)
+
+-- both diode-bad
+unfoldable pub bothDiodeBad : Pair → Bool
+bothDiodeBad pair = paired pair && (pair .previous .verdict .diodebad && pair .this .diodebad)
+
+-- both unsound
+unfoldable pub bothUnsound : Pair → Bool
+bothUnsound pair = paired pair && (not (pair .previous .verdict .sound) && not (pair .this .sound))

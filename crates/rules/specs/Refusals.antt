@@ -1,0 +1,47 @@
+-- What is refused in a list (document 01, "What a refused call hands back"): 3, then 2, then by number; 0 if the call is accepted.
+use mathlib.Core.Bool.{Bool, cond}
+use Prim.Native.Nat.{ℕ}
+use lib.Dec.{eqb, leb, ltb}
+use Rattle.units.specs.Range.{fromTo}
+use Rattle.window.specs.Weighing.{Weighs, levels, refused}
+use Rattle.rules.specs.Begin.{largestTime}
+use Rattle.rules.specs.Calls.{Event, sample, limit, measure, fault, clear, tick, Heard}
+use Rattle.rules.specs.State.{State}
+
+-- the first number, or the second where the first is 0
+abbrev pub orElse : ℕ → ℕ → ℕ
+orElse first second = cond (eqb first 0) second first
+
+-- 3 above the largest time, 2 below that of the last accepted call or begin
+unfoldable pub timeRefusal : State → ℕ → ℕ
+timeRefusal s now = cond (ltb largestTime now) 3 (cond (ltb now (s .last)) 2 0)
+
+-- the window's own refusal: 4, 5 or 6
+abbrev pub windowRefusal : Weighs → ℕ
+windowRefusal (levels high low) = 0
+windowRefusal (refused number) = number
+
+-- fault kinds of a fault call
+unfoldable pub kindAllowed : ℕ → Bool
+kindAllowed kind = fromTo 3 5 kind
+
+-- the depot's limit
+unfoldable pub limitAllowed : ℕ → Bool
+limitAllowed current = leb current 80000
+
+-- a measured line current
+unfoldable pub measureAllowed : ℕ → Bool
+measureAllowed current = leb current 200000
+
+-- 4 to 8, for the arguments
+unfoldable pub argumentRefusal : Event Weighs → ℕ
+argumentRefusal (sample window) = windowRefusal window
+argumentRefusal (limit current) = cond (limitAllowed current) 0 7
+argumentRefusal (measure current) = cond (measureAllowed current) 0 7
+argumentRefusal (fault kind) = cond (kindAllowed kind) 0 8
+argumentRefusal clear = 0
+argumentRefusal tick = 0
+
+-- the refusal of a call in a list
+unfoldable pub refusal : State → Heard → ℕ
+refusal s call = orElse (timeRefusal s (call .time)) (argumentRefusal (call .event))

@@ -1,0 +1,54 @@
+-- The reply (document 01, "The calls"): what is shown of a lent controller, beside the refusal number.
+use mathlib.Core.Bool.{Bool, _||_, cond}
+use Prim.Native.Nat.{ℕ}
+use lib.Dec.{eqb}
+use Rattle.units.specs.Wave.{driven}
+use Rattle.pilot.specs.Bands.{bandE}
+use Rattle.rules.specs.Lent.{Lent}
+use Rattle.rules.specs.State.{State, Faults, anyFault}
+use Rattle.rules.specs.Step3Wave.{isLetter}
+
+pub record Reply : Type 0 where
+  pub refusal : ℕ
+  pub letter : ℕ
+  pub digit : ℕ
+  pub wave : ℕ
+  pub closed : Bool
+  pub fault : ℕ
+  pub closings : ℕ
+
+abbrev pub letterF : ℕ
+letterF = 70
+
+abbrev pub letterU : ℕ
+letterU = 85
+
+-- letter: F with a fault, else the settled one or U
+unfoldable pub letter : State → ℕ
+letter s = cond (anyFault (s .faults)) letterF (cond (isLetter (s .settled)) (s .settled) letterU)
+
+-- digit: 0 for U, E and F, else 2 with a driven wave and 1 without
+unfoldable pub digit : State → ℕ
+digit s =
+    cond (eqb (letter s) letterU || (eqb (letter s) bandE || eqb (letter s) letterF)) 0 (cond (driven (s .wave)) 2 1)
+
+-- some latched fault, here the lowest; 0 if none. The paper leaves open which.
+unfoldable pub faultShown : Faults → ℕ
+faultShown faults =
+    cond (faults .diode) 1
+    (cond (faults .overcurrent) 2
+    (cond (faults .residual) 3
+    (cond (faults .welded) 4
+    (cond (faults .temperature) 5 0))))
+
+abbrev pub shown : ℕ → Lent → Reply
+shown number lent =
+    record {
+      refusal = number;
+      letter = letter (lent .kept);
+      digit = digit (lent .kept);
+      wave = lent .kept .wave;
+      closed = lent .kept .closed;
+      fault = faultShown (lent .kept .faults);
+      closings = lent .closings;
+    }

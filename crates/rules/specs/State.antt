@@ -1,0 +1,72 @@
+-- What the replay keeps (document 01, demand 3), and nothing else. Times are in milliseconds, currents in milliamps.
+use mathlib.Core.Bool.{Bool, true, false, _||_, cond}
+use Prim.Native.Nat.{ℕ}
+use Rattle.pilot.specs.declared.verdicts.Verdict.{Verdict}
+
+-- a time or a start that is set, or empty; the number of an empty one says nothing
+pub record Moment : Type 0 where
+  pub set : Bool
+  pub time : ℕ
+
+abbrev pub empty : Moment
+empty = record { set = false; time = 0 }
+
+abbrev pub setTo : ℕ → Moment
+setTo now = record { set = true; time = now }
+
+-- starts now, unless it runs already
+abbrev pub startedBy : ℕ → Moment → Moment
+startedBy now start = cond (start .set) start (setTo now)
+
+-- the previous sample with its verdict; none is kept at the start and where it is forgotten
+pub record Previous : Type 0 where
+  pub kept : Bool
+  pub verdict : Verdict
+
+abbrev pub noVerdict : Verdict
+noVerdict = record { band = 0; sound = false; proven = false; diodebad = false }
+
+abbrev pub forgotten : Previous
+forgotten = record { kept = false; verdict = noVerdict }
+
+-- begin's settings, the pause as it is in force
+pub record Settings : Type 0 where
+  pub rated : ℕ
+  pub pause : ℕ
+  pub ventilation : Bool
+
+-- the latched faults: 1 no diode, 2 over-current, 3 residual current, 4 welded contact, 5 over-temperature
+pub record Faults : Type 0 where
+  pub diode : Bool
+  pub overcurrent : Bool
+  pub residual : Bool
+  pub welded : Bool
+  pub temperature : Bool
+
+abbrev pub noFaults : Faults
+noFaults = record { diode = false; overcurrent = false; residual = false; welded = false; temperature = false }
+
+-- a fault is latched
+unfoldable pub anyFault : Faults → Bool
+anyFault faults = faults .diode || (faults .overcurrent || (faults .residual || (faults .welded || faults .temperature)))
+
+pub record State : Type 0 where
+  pub settings : Settings
+  -- the depot's limit
+  pub limit : ℕ
+  -- the wave command
+  pub wave : ℕ
+  -- the contactor is closed
+  pub closed : Bool
+  -- the settled state as its letter in ASCII; any other number is U
+  pub settled : ℕ
+  pub faults : Faults
+  -- the time of the last accepted call
+  pub last : ℕ
+  -- the times of the last sound sample and of the last opening
+  pub sound : Moment
+  pub opening : Moment
+  -- the starts of the over-run and of the stop
+  pub overrun : Moment
+  pub stop : Moment
+  pub previous : Previous

@@ -1,0 +1,95 @@
+-- Step 1 of an accepted call: its event.
+use mathlib.Core.Bool.{Bool, _&&_, _||_, cond}
+use Prim.Native.Nat.{ℕ, _*_}
+use lib.Dec.{eqb, ltb}
+use Rattle.units.specs.Wave.{driven}
+use Rattle.duty.specs.Reading.{Reads, noCharging, digitalOnly, current, refused, readingOf}
+use Rattle.window.specs.Weighing.{Weighs}
+use Rattle.rules.specs.Calls.{Event, sample, limit, measure, fault, clear, tick}
+use Rattle.rules.specs.Pairs.{Pair, inOneBand}
+use Rattle.rules.specs.State.{State, Moment, Faults, noFaults, empty, setTo, startedBy}
+
+-- settling: two samples in one band settle that state, and nothing else does
+unfoldable pub settledBy : Pair → ℕ → ℕ
+settledBy pair settled = cond (inOneBand pair) (pair .this .band) settled
+
+-- the time of the last sound sample
+unfoldable pub soundBy : ℕ → Pair → Moment → Moment
+soundBy now pair sound = cond (pair .sampled && pair .this .sound) (setTo now) sound
+
+-- limit stored
+unfoldable pub limitBy : Event Weighs → ℕ → ℕ
+limitBy (sample window) stored = stored
+limitBy (limit given) stored = given
+limitBy (measure line) stored = stored
+limitBy (fault kind) stored = stored
+limitBy clear stored = stored
+limitBy tick stored = stored
+
+-- the faults with that of a fault call
+unfoldable pub withKind : ℕ → Faults → Faults
+withKind kind faults =
+    record {
+      diode = faults .diode;
+      overcurrent = faults .overcurrent;
+      residual = faults .residual || eqb kind 3;
+      welded = faults .welded || eqb kind 4;
+      temperature = faults .temperature || eqb kind 5;
+    }
+
+-- fault latched; clear drops every latched fault
+unfoldable pub faultsBy : Event Weighs → Faults → Faults
+faultsBy (sample window) faults = faults
+faultsBy (limit given) faults = faults
+faultsBy (measure line) faults = faults
+faultsBy (fault kind) faults = withKind kind faults
+faultsBy clear faults = noFaults
+faultsBy tick faults = faults
+
+-- the current that a reading tells; 0 where it tells none
+unfoldable pub told : Reads → ℕ
+told noCharging = 0
+told digitalOnly = 0
+told (current milliamps) = milliamps
+told (refused number) = 0
+
+-- the current that the van may draw by the wave: what an over-run is judged against
+unfoldable pub announced : State → ℕ
+announced s = told (readingOf (s .wave))
+
+-- more than a tenth above what is announced
+unfoldable pub isOver : ℕ → ℕ → Bool
+isOver line allowed = ltb (11 * allowed) (10 * line)
+
+-- a measure is judged where the contactor is closed and the wave driven
+unfoldable pub overrunAt : ℕ → ℕ → State → Moment
+overrunAt now line s =
+    cond (s .closed && driven (s .wave))
+    (cond (isOver line (announced s)) (startedBy now (s .overrun)) empty)
+    (s .overrun)
+
+-- the over-run: only a measure starts or ends it here
+unfoldable pub overrunBy : ℕ → Event Weighs → State → Moment
+overrunBy now (sample window) s = s .overrun
+overrunBy now (limit given) s = s .overrun
+overrunBy now (measure line) s = overrunAt now line s
+overrunBy now (fault kind) s = s .overrun
+overrunBy now clear s = s .overrun
+overrunBy now tick s = s .overrun
+
+abbrev pub stepEvent : ℕ → Event Weighs → Pair → State → State
+stepEvent now event pair s =
+    record {
+      settings = s .settings;
+      limit = limitBy event (s .limit);
+      wave = s .wave;
+      closed = s .closed;
+      settled = settledBy pair (s .settled);
+      faults = faultsBy event (s .faults);
+      last = s .last;
+      sound = soundBy now pair (s .sound);
+      opening = s .opening;
+      overrun = overrunBy now event s;
+      stop = s .stop;
+      previous = s .previous;
+    }

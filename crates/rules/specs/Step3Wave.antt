@@ -1,0 +1,72 @@
+-- Step 3 of an accepted call: the wave, and the stop that follows from it.
+use mathlib.Core.Bool.{Bool, _&&_, _||_, not, cond}
+use Prim.Native.Nat.{ℕ, min}
+use lib.Dec.{eqb, ltb}
+use Rattle.units.specs.Range.{fromTo}
+use Rattle.units.specs.Wave.{driven}
+use Rattle.pilot.specs.Bands.{bandA, bandD, bandE}
+use Rattle.duty.specs.DutyFor.{Sends, duty, refusal, dutyFor}
+use Rattle.rules.specs.State.{State, Moment, anyFault, empty, startedBy}
+
+-- steady -12 V (state F)
+abbrev pub steadyLow : ℕ
+steadyLow = 0
+
+-- steady +12 V
+abbrev pub steadyHigh : ℕ
+steadyHigh = 1000
+
+-- a settled state that is one of A to E
+unfoldable pub isLetter : ℕ → Bool
+isLetter settled = fromTo bandA bandE settled
+
+-- settled U, A or E
+unfoldable pub isUAE : ℕ → Bool
+isUAE settled = not (isLetter settled) || (eqb settled bandA || eqb settled bandE)
+
+-- settled D without ventilation
+unfoldable pub unventilatedD : State → Bool
+unventilatedD s = eqb (s .settled) bandD && not (s .settings .ventilation)
+
+-- the lesser of rated and limit
+unfoldable pub available : State → ℕ
+available s = min (s .settings .rated) (s .limit)
+
+-- no duty is sent, though there is no fault
+unfoldable pub heldHigh : State → Bool
+heldHigh s = ltb (available s) 6000 || (isUAE (s .settled) || unventilatedD s)
+
+-- the duty that is sent; where there is none the wave stays high, which `heldHigh` has ruled out
+unfoldable pub sent : Sends → ℕ
+sent (duty d) = d
+sent (refusal number) = steadyHigh
+
+-- the wave
+unfoldable pub waveFor : State → ℕ
+waveFor s = cond (anyFault (s .faults)) steadyLow (cond (heldHigh s) steadyHigh (sent (dutyFor (available s))))
+
+-- an over-run ends where the wave is not driven
+unfoldable pub overrunUnder : ℕ → Moment → Moment
+overrunUnder wave overrun = cond (driven wave) overrun empty
+
+-- a stop: starts where the contactor is closed and the wave high, ends where the wave is driven
+unfoldable pub stopUnder : ℕ → ℕ → Bool → Moment → Moment
+stopUnder now wave closed stop =
+    cond (closed && eqb wave steadyHigh) (startedBy now stop) (cond (driven wave) empty stop)
+
+abbrev pub stepWave : ℕ → State → State
+stepWave now s =
+    record {
+      settings = s .settings;
+      limit = s .limit;
+      wave = waveFor s;
+      closed = s .closed;
+      settled = s .settled;
+      faults = s .faults;
+      last = s .last;
+      sound = s .sound;
+      opening = s .opening;
+      overrun = overrunUnder (waveFor s) (s .overrun);
+      stop = stopUnder now (waveFor s) (s .closed) (s .stop);
+      previous = s .previous;
+    }

@@ -1,0 +1,53 @@
+-- Step 4 of an accepted call: opening, and its five causes.
+use mathlib.Core.Bool.{Bool, true, _&&_, _||_, not, cond}
+use Prim.Native.Nat.{ℕ, _+_}
+use lib.Dec.{ltb}
+use Rattle.rules.specs.Pairs.{Pair, bothUnsound}
+use Rattle.rules.specs.Step2Latches.{ranFor}
+use Rattle.rules.specs.Step3Wave.{unventilatedD}
+use Rattle.rules.specs.State.{State, Moment, anyFault, empty, setTo, forgotten}
+
+-- (i) this and the previous sample both unsound
+unfoldable pub cause1 : Pair → Bool
+cause1 pair = bothUnsound pair
+
+-- (ii) more than 80 since the last sound sample, or none so far
+unfoldable pub cause2 : ℕ → State → Bool
+cause2 now s = cond (s .sound .set) (ltb (s .sound .time + 80) now) true
+
+-- (iii) settled D without ventilation
+unfoldable pub cause3 : State → Bool
+cause3 s = unventilatedD s
+
+-- (iv) a stop began 3,000 or more ago
+unfoldable pub cause4 : ℕ → State → Bool
+cause4 now s = ranFor 3000 now (s .stop)
+
+-- (v) a fault is latched
+unfoldable pub cause5 : State → Bool
+cause5 s = anyFault (s .faults)
+
+-- any cause holds
+unfoldable pub cause : ℕ → Pair → State → Bool
+cause now pair s = cause1 pair || (cause2 now s || (cause3 s || (cause4 now s || cause5 s)))
+
+unfoldable pub opens : ℕ → Pair → State → Bool
+opens now pair s = s .closed && cause now pair s
+
+-- opening ends over-run and stop and forgets the previous sample
+abbrev pub stepOpening : ℕ → Pair → State → State
+stepOpening now pair s =
+    record {
+      settings = s .settings;
+      limit = s .limit;
+      wave = s .wave;
+      closed = s .closed && not (opens now pair s);
+      settled = s .settled;
+      faults = s .faults;
+      last = s .last;
+      sound = s .sound;
+      opening = cond (opens now pair s) (setTo now) (s .opening);
+      overrun = cond (opens now pair s) empty (s .overrun);
+      stop = cond (opens now pair s) empty (s .stop);
+      previous = cond (opens now pair s) forgotten (s .previous);
+    }

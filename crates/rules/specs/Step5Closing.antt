@@ -1,0 +1,37 @@
+-- Step 5 of an accepted call: closing.
+use mathlib.Core.Bool.{Bool, true, _&&_, _||_, not, cond}
+use Prim.Native.Nat.{ℕ, suc, _+_}
+use lib.Dec.{leb}
+use Rattle.units.specs.Wave.{driven}
+use Rattle.rules.specs.Pairs.{Pair, bothProven}
+use Rattle.rules.specs.State.{State, Moment}
+
+-- never opened, or the last opening at least the pause ago
+unfoldable pub rested : ℕ → State → Bool
+rested now s = cond (s .opening .set) (leb (s .opening .time + s .settings .pause) now) true
+
+-- every closing condition: open, not opened in this call, a sample call (which `bothProven` asks), a driven wave, this and the
+-- previous sample both proven in the same band, and rested
+unfoldable pub closes : Bool → ℕ → Pair → State → Bool
+closes opened now pair s = not (s .closed) && (not opened && (driven (s .wave) && (bothProven pair && rested now s)))
+
+-- closings grows by 1
+unfoldable pub closingsBy : Bool → ℕ → ℕ
+closingsBy closing closings = cond closing (suc closings) closings
+
+abbrev pub stepClosing : Bool → ℕ → Pair → State → State
+stepClosing opened now pair s =
+    record {
+      settings = s .settings;
+      limit = s .limit;
+      wave = s .wave;
+      closed = s .closed || closes opened now pair s;
+      settled = s .settled;
+      faults = s .faults;
+      last = s .last;
+      sound = s .sound;
+      opening = s .opening;
+      overrun = s .overrun;
+      stop = s .stop;
+      previous = s .previous;
+    }

@@ -1,0 +1,39 @@
+-- The trace of a list: what the replay says of each call, with the contactor and the closings that were told.
+use mathlib.Core.Bool.{Bool}
+use mathlib.Core.List.{List}
+use Prim.Native.Nat.{ℕ}
+use lib.ListN.{length, getD, take}
+use Rattle.rules.specs.Accepted.{closesAt, causeAt}
+use Rattle.rules.specs.Begin.{Begin, pauseFor}
+use Rattle.rules.specs.Calls.{Call, Heard, tick, heard, isSample}
+use Rattle.rules.specs.Claim.{Trace}
+use Rattle.rules.specs.Pairs.{verdict}
+use Rattle.rules.specs.Replay.{isAccepted, replay}
+use Rattle.rules.specs.State.{State}
+
+-- stands for a call past the end of the list, of which nothing is claimed
+abbrev pub noCall : Call
+noCall = record { time = 0; event = tick }
+
+module _ (begin : Begin) (calls : List Call) where
+  -- the replay before call k
+  abbrev pub before : ℕ → State
+  before k = replay begin (take k calls)
+
+  abbrev pub callAt : ℕ → Heard
+  callAt k = heard (getD calls k noCall)
+
+  abbrev pub traceOf : (ℕ → Bool) → (ℕ → ℕ) → Trace
+  traceOf told carried =
+      record {
+        length = length calls;
+        told = told;
+        carried = carried;
+        accepted = λ k. isAccepted (before k) (callAt k);
+        time = λ k. callAt k .time;
+        sampled = λ k. isSample (callAt k .event);
+        verdict = λ k. verdict (before k) (callAt k .event);
+        closes = λ k. closesAt (before k) (callAt k);
+        cause = λ k. causeAt (before k) (callAt k);
+        pause = pauseFor (begin .pause);
+      }
