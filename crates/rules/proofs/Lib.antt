@@ -6,3 +6,6 @@ pub mod Remembered
 pub mod Rests
 pub mod Spacing
 pub mod Demand3
+pub mod OneCall
+pub mod Acceptance
+pub mod Replayed
