@@ -9,3 +9,7 @@ pub mod Demand3
 pub mod OneCall
 pub mod Acceptance
 pub mod Replayed
+pub mod Waves
+pub mod Ranges
+pub mod Lists
+pub mod Lending

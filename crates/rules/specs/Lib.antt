@@ -16,3 +16,4 @@ pub mod Reply
 pub mod Answer
 pub mod Claim
 pub mod Traces
+pub mod EveryList

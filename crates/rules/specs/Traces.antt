@@ -1,14 +1,17 @@
 -- The trace of a list: what the replay says of each call, with the contactor and the closings that were told.
 use mathlib.Core.Bool.{Bool}
 use mathlib.Core.List.{List}
-use Prim.Native.Nat.{ℕ}
+use Prim.Native.Nat.{ℕ, zero, suc}
 use lib.ListN.{length, getD, take}
 use Rattle.rules.specs.Accepted.{closesAt, causeAt}
+use Rattle.rules.specs.Answer.{begun, replyTo, lentAfter}
 use Rattle.rules.specs.Begin.{Begin, pauseFor}
 use Rattle.rules.specs.Calls.{Call, Heard, tick, heard, isSample}
 use Rattle.rules.specs.Claim.{Trace}
+use Rattle.rules.specs.Lent.{Lent}
 use Rattle.rules.specs.Pairs.{verdict}
 use Rattle.rules.specs.Replay.{isAccepted, replay}
+use Rattle.rules.specs.Reply.{Reply, shown}
 use Rattle.rules.specs.State.{State}
 
 -- stands for a call past the end of the list, of which nothing is claimed
@@ -37,3 +40,16 @@ module _ (begin : Begin) (calls : List Call) where
         cause = λ k. causeAt (before k) (callAt k);
         pause = pauseFor (begin .pause);
       }
+
+  -- the controller lent to call k
+  abbrev pub lentAt : ℕ → Lent
+  lentAt k = lentAfter (begun begin) (take k calls)
+
+  -- the reply before call k: begin's, or that of the call before it
+  abbrev pub replyBefore : ℕ → Reply
+  replyBefore zero = shown 0 (begun begin)
+  replyBefore (suc k) = replyTo (lentAt k) (callAt k)
+
+  -- the trace of the definitions' own replies
+  abbrev pub answered : Trace
+  answered = traceOf (λ k. replyBefore k .closed) (λ k. replyBefore k .closings)

@@ -1,0 +1,112 @@
+-- One controller lent from call to call keeps what the replay keeps, and refusal 1 never comes.
+use mathlib.Core.Path.{_≡_, refl, sym, _∙_, ap}
+use mathlib.Core.Bool.{Bool, true, false, _&&_, _||_, not, cond}
+use mathlib.Core.List.{List, [], _∷_}
+use Prim.Native.Nat.{ℕ, zero, suc, _+_, _≤_, _<_}
+use native.Mathlib.Nat.{not-suc-le-zero, le-of-suc-le-suc}
+use native.Mathlib.Omega.{arith}
+use lib.Dec.{eqb, leb}
+use lib.ListN.{length, getD, take}
+use borrow.Author.Tests.{le-leb}
+use Rattle.rules.specs.Accepted.{closesAt, accept}
+use Rattle.rules.specs.Answer.{begun, acceptLent, next, lentAfter}
+use Rattle.rules.specs.Begin.{Begin, beginRefusal, fresh}
+use Rattle.rules.specs.Calls.{Call, Heard, heard}
+use Rattle.rules.specs.Claim.{Trace, closingsIn, Demand3}
+use Rattle.rules.specs.Lent.{Lent, mostClosings, inRange, altered, lentRefusal}
+use Rattle.rules.specs.Refusals.{orElse, timeRefusal, argumentRefusal, refusal}
+use Rattle.rules.specs.Replay.{isAccepted, step, after, replay}
+use Rattle.rules.specs.State.{State}
+use Rattle.rules.specs.Step5Closing.{closingsBy}
+use Rattle.rules.specs.Traces.{noCall, before, callAt, traceOf, lentAt, replyBefore, answered}
+use Rattle.rules.proofs.Lists.{list-in-range}
+use Rattle.rules.proofs.Ranges.{range-whole}
+use Rattle.rules.proofs.Replayed.{before-next, step-by, keptOf, Tells, lawful, demand3-told}
+use Rattle.rules.proofs.Spacing.{at-most, counts}
+
+-- a controller that was not altered is refused what the table refuses
+pub lent-refusal : (lent : Lent) (call : Heard) → altered lent ≡ false → lentRefusal lent call ≡ refusal (lent .kept) call
+unfolding lentRefusal refusal
+lent-refusal lent call e = rw e
+
+next-by : (lent : Lent) (call : Heard) (a : Bool) → eqb (lentRefusal lent call) 0 ≡ a → next lent call ≡ cond a (acceptLent lent call) lent
+unfolding next
+next-by lent call a e = ap (λ b. cond b (acceptLent lent call) lent) e
+
+-- then it goes on as the replay does, and counts the closings
+next-follows : (s : State) (n : ℕ) (call : Heard) → altered (record { kept = s; closings = n }) ≡ false
+    → next (record { kept = s; closings = n }) call
+    ≡ record { kept = step s call; closings = closingsBy (isAccepted s call && closesAt s call) n }
+unfolding closingsBy
+next-follows s n call same = go (isAccepted s call) refl
+  where
+    lent : Lent
+    lent = record { kept = s; closings = n }
+
+    go : (a : Bool) → isAccepted s call ≡ a
+        → next lent call ≡ record { kept = step s call; closings = closingsBy (isAccepted s call && closesAt s call) n }
+    go true into =
+        next-by lent call true (ap (λ r. eqb r 0) (lent-refusal lent call same) ∙ into)
+        ∙ rw (step-by s call true into, into)
+    go false out =
+        next-by lent call false (ap (λ r. eqb r 0) (lent-refusal lent call same) ∙ out)
+        ∙ rw (step-by s call false out, out)
+
+pub lent-next : (lent : Lent) (calls : List Call) (k : ℕ) → k < length calls
+    → lentAfter lent (take (suc k) calls) ≡ next (lentAfter lent (take k calls)) (heard (getD calls k noCall))
+unfolding lentAfter
+lent-next lent [] k below = absurd (not-suc-le-zero below)
+lent-next lent (call ∷ calls) zero below = refl
+lent-next lent (call ∷ calls) (suc k) below = lent-next (next lent (heard call)) calls k (le-of-suc-le-suc below)
+
+module _ (begin : Begin) (calls : List Call) (accepted : beginRefusal begin ≡ 0) where
+  -- the closings of the replay before call k
+  abbrev tally : ℕ → ℕ
+  tally zero = 0
+  tally (suc k) = closingsBy (isAccepted (before begin calls k) (callAt begin calls k) && closesAt (before begin calls k) (callAt begin calls k)) (tally k)
+
+  by-replay : Tells begin calls (λ k. before begin calls k .closed) tally
+  by-replay = record { told-is = λ k below. refl; carried-none = refl; carried-next = λ k below. refl }
+
+  tally-most : (k : ℕ) → k ≤ length calls → tally k ≤ mostClosings
+  tally-most k within =
+      let laws = lawful begin calls _ tally by-replay accepted in
+      rw (counts (traceOf begin calls (λ k. before begin calls k .closed) tally) (keptOf begin calls) laws k within)
+      (at-most (traceOf begin calls (λ k. before begin calls k .closed) tally) (keptOf begin calls) laws k within)
+
+  -- no list leads to a controller that refusal 1 names
+  pub tally-not-altered : (k : ℕ) → k ≤ length calls → altered (record { kept = before begin calls k; closings = tally k }) ≡ false
+  unfolding altered
+  tally-not-altered k within =
+      rw (range-whole (before begin calls k) (list-in-range begin (take k calls) accepted), le-leb (tally k) mostClosings (tally-most k within))
+
+  pub lent-is : (k : ℕ) → k ≤ length calls → lentAt begin calls k ≡ record { kept = before begin calls k; closings = tally k }
+  unfolding replay after lentAfter
+  lent-is zero within = refl
+  lent-is (suc k) within =
+      lent-next (begun begin) calls k within
+      ∙ ap (λ l. next l (callAt begin calls k)) (lent-is k (omega arith))
+      ∙ next-follows (before begin calls k) (tally k) (callAt begin calls k) (tally-not-altered k (omega arith))
+      ∙ ap (λ s. record { kept = s; closings = tally (suc k) }) (sym (before-next begin calls k within))
+
+  -- what a reply tells before call k is what the lent controller holds
+  pub reply-is : {A : Type 0} (f : Lent → A) (g : ℕ → A) → g 0 ≡ f (begun begin)
+      → ((k : ℕ) → g (suc k) ≡ f (next (lentAt begin calls k) (callAt begin calls k))) → (k : ℕ) → k ≤ length calls
+      → g k ≡ f (record { kept = before begin calls k; closings = tally k })
+  unfolding replay after
+  reply-is f g first later zero within = first
+  reply-is f g first later (suc k) within = later k ∙ ap f (sym (lent-next (begun begin) calls k within) ∙ lent-is (suc k) within)
+
+  pub closings-told : (k : ℕ) → k ≤ length calls → replyBefore begin calls k .closings ≡ tally k
+  closings-told = reply-is (λ l. l .closings) (λ k. replyBefore begin calls k .closings) refl (λ k. refl)
+
+  tells : Tells begin calls (λ k. replyBefore begin calls k .closed) (λ k. replyBefore begin calls k .closings)
+  tells =
+      record {
+        told-is = reply-is (λ l. l .kept .closed) (λ k. replyBefore begin calls k .closed) refl (λ k. refl);
+        carried-none = refl;
+        carried-next = λ k below. closings-told (suc k) below ∙ rw (closings-told k (omega arith));
+      }
+
+  pub demand3 : Demand3 (answered begin calls)
+  demand3 = demand3-told begin calls _ _ tells accepted

@@ -1,0 +1,52 @@
+-- What a fresh controller has and every accepted call keeps, every list leads to.
+use mathlib.Core.Path.{_≡_, refl, sym, _∙_, ap}
+use mathlib.Core.Bool.{Bool, true, false}
+use mathlib.Core.List.{List, [], _∷_}
+use Rattle.units.specs.Range.{fromTo}
+use Rattle.units.specs.Wave.{driven}
+use Rattle.rules.specs.Accepted.{accept}
+use Rattle.rules.specs.Begin.{Begin, beginRefusal, fresh, pauseFor}
+use Rattle.rules.specs.Calls.{Call, Heard, heard}
+use Rattle.rules.specs.Lent.{waveAllowed, storedAllowed}
+use Rattle.rules.specs.Refusals.{limitAllowed}
+use Rattle.rules.specs.Replay.{isAccepted, step, after, replay}
+use Rattle.rules.specs.State.{State}
+use Rattle.rules.proofs.Acceptance.{begins}
+use Rattle.rules.proofs.Ranges.{InRange, range-kept}
+use Rattle.rules.proofs.Replayed.{step-by}
+
+module _ (Holds : State → Type 0) (keeps : (s : State) (call : Heard) → isAccepted s call ≡ true → Holds s → Holds (accept s call)) where
+  pub step-keeps : (s : State) (call : Heard) → Holds s → Holds (step s call)
+  step-keeps s call holds = go (isAccepted s call) refl
+    where
+      go : (a : Bool) → isAccepted s call ≡ a → Holds (step s call)
+      go true into = rw (step-by s call true into) (keeps s call into holds)
+      go false out = rw (step-by s call false out) holds
+
+  pub after-keeps : (s : State) (calls : List Call) → Holds s → Holds (after s calls)
+  unfolding after
+  after-keeps s [] holds = holds
+  after-keeps s (call ∷ calls) holds = after-keeps (step s (heard call)) calls (step-keeps s (heard call) holds)
+
+  pub replay-keeps : (begin : Begin) (calls : List Call) → Holds (fresh begin) → Holds (replay begin calls)
+  unfolding replay
+  replay-keeps begin calls holds = after-keeps (fresh begin) calls holds
+
+pub fresh-in-range : (begin : Begin) → beginRefusal begin ≡ 0 → InRange (fresh begin)
+unfolding fresh waveAllowed driven fromTo limitAllowed storedAllowed
+fresh-in-range begin accepted =
+    let known = begins begin accepted in
+    record {
+      wave = refl;
+      limit = refl;
+      rated = known .rated-right;
+      pause = known .pause-right;
+      sound = refl;
+      opening = refl;
+      overrun = refl;
+      stop = refl;
+    }
+
+-- theorem 5: no list leads out of the ranges
+pub list-in-range : (begin : Begin) (calls : List Call) → beginRefusal begin ≡ 0 → InRange (replay begin calls)
+list-in-range begin calls accepted = replay-keeps InRange range-kept begin calls (fresh-in-range begin accepted)

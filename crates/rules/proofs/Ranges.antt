@@ -1,0 +1,139 @@
+-- The ranges of refusal 1 are kept by every accepted call.
+use mathlib.Core.Path.{_≡_, refl, sym, _∙_, ap}
+use mathlib.Core.Bool.{Bool, true, false, _&&_, _||_, not, cond}
+use Prim.Native.Nat.{ℕ, _+_, _≤_}
+use native.Mathlib.Nat.{le-refl}
+use native.Mathlib.Omega.{arith}
+use lib.Dec.{eqb, leb}
+use borrow.Author.Tests.{leb-true, le-leb}
+use Rattle.units.specs.Wave.{driven}
+use Rattle.units.proofs.LevelOrder.{and-parts}
+use Rattle.window.specs.Weighing.{Weighs}
+use Rattle.rules.specs.Accepted.{pairAt, unsettlesAt, opensAt, afterEvent, afterLatch, afterWave, accept}
+use Rattle.rules.specs.Begin.{Begin, ratedAllowed, pauseAllowed, pauseFor, beginRefusal, fresh}
+use Rattle.rules.specs.Calls.{Event, sample, limit, measure, fault, clear, tick, Heard}
+use Rattle.rules.specs.Lent.{waveAllowed, storedAllowed, timesAllowed, inRange}
+use Rattle.rules.specs.Pairs.{Pair}
+use Rattle.rules.specs.Refusals.{limitAllowed, argumentRefusal}
+use Rattle.rules.specs.Replay.{isAccepted}
+use Rattle.rules.specs.State.{State, Moment, empty, setTo, startedBy}
+use Rattle.rules.specs.Step1Event.{isOver, announced, soundBy, limitBy, overrunAt, overrunBy}
+use Rattle.rules.specs.Step3Wave.{steadyHigh, waveFor, overrunUnder, stopUnder}
+use Rattle.rules.proofs.Acceptance.{arguments-right, on-time, begins}
+use Rattle.rules.proofs.Booleans.{clash}
+use Rattle.rules.proofs.Waves.{wave-allowed}
+
+-- the ranges, one by one
+pub record InRange (s : State) : Type 0 where
+  pub wave : waveAllowed (s .wave) ≡ true
+  pub limit : limitAllowed (s .limit) ≡ true
+  pub rated : ratedAllowed (s .settings .rated) ≡ true
+  pub pause : pauseAllowed (s .settings .pause) ≡ true
+  pub sound : storedAllowed (s .last) (s .sound) ≡ true
+  pub opening : storedAllowed (s .last) (s .opening) ≡ true
+  pub overrun : storedAllowed (s .last) (s .overrun) ≡ true
+  pub stop : storedAllowed (s .last) (s .stop) ≡ true
+
+pub range-parts : (s : State) → inRange s ≡ true → InRange s
+unfolding inRange timesAllowed
+range-parts s e =
+    let one = and-parts (waveAllowed (s .wave)) _ e in
+    let two = and-parts (limitAllowed (s .limit)) _ (one .1) in
+    let three = and-parts (ratedAllowed (s .settings .rated)) _ (two .1) in
+    let four = and-parts (pauseAllowed (s .settings .pause)) _ (three .1) in
+    let five = and-parts (storedAllowed (s .last) (s .sound)) _ (four .1) in
+    let six = and-parts (storedAllowed (s .last) (s .opening)) _ (five .1) in
+    let seven = and-parts (storedAllowed (s .last) (s .overrun)) _ (six .1) in
+    record {
+      wave = one .0;
+      limit = two .0;
+      rated = three .0;
+      pause = four .0;
+      sound = five .0;
+      opening = six .0;
+      overrun = seven .0;
+      stop = seven .1;
+    }
+
+pub range-whole : (s : State) → InRange s → inRange s ≡ true
+unfolding inRange timesAllowed
+range-whole s p = rw (p .wave, p .limit, p .rated, p .pause, p .sound, p .opening, p .overrun, p .stop)
+
+-- stored times that are not above the call's
+module _ (now : ℕ) where
+  none-stored : storedAllowed now empty ≡ true
+  unfolding storedAllowed
+  none-stored = refl
+
+  now-stored : storedAllowed now (setTo now) ≡ true
+  unfolding storedAllowed
+  now-stored = le-leb now now (le-refl now)
+
+  either-stored : (b : Bool) (m n : Moment) → storedAllowed now m ≡ true → storedAllowed now n ≡ true → storedAllowed now (cond b m n) ≡ true
+  either-stored true m n p q = p
+  either-stored false m n p q = q
+
+  started-stored : (m : Moment) → storedAllowed now m ≡ true → storedAllowed now (startedBy now m) ≡ true
+  started-stored m p = either-stored (m .set) m (setTo now) p now-stored
+
+  later-stored : (last : ℕ) (m : Moment) → last ≤ now → storedAllowed last m ≡ true → storedAllowed now m ≡ true
+  unfolding storedAllowed
+  later-stored last m past e = go (m .set) e
+    where
+      go : (b : Bool) → not b || leb (m .time) last ≡ true → not b || leb (m .time) now ≡ true
+      go true f = le-leb (m .time) now (omega (arith, leb-true (m .time) last f))
+      go false f = refl
+
+module _ (s : State) (call : Heard) where
+  overrun-stored : (event : Event Weighs) → storedAllowed (call .time) (s .overrun) ≡ true
+      → storedAllowed (call .time) (overrunBy (call .time) event s) ≡ true
+  unfolding overrunBy overrunAt
+  overrun-stored (sample window) p = p
+  overrun-stored (limit given) p = p
+  overrun-stored (measure line) p =
+      either-stored (call .time) (s .closed && driven (s .wave)) _ (s .overrun)
+      (either-stored (call .time) (isOver line (announced s)) _ empty (started-stored (call .time) (s .overrun) p) (none-stored (call .time))) p
+  overrun-stored (fault kind) p = p
+  overrun-stored clear p = p
+  overrun-stored tick p = p
+
+  limit-right : (event : Event Weighs) → argumentRefusal event ≡ 0 → limitAllowed (s .limit) ≡ true → limitAllowed (limitBy event (s .limit)) ≡ true
+  unfolding limitBy argumentRefusal
+  limit-right (sample window) e p = p
+  limit-right (limit given) e p = go (limitAllowed given) refl e
+    where
+      go : (b : Bool) → limitAllowed given ≡ b → _≡_ {A = ℕ} (cond b 0 7) 0 → b ≡ true
+      go true q f = refl
+      go false q f = absurd (omega arith)
+  limit-right (measure line) e p = p
+  limit-right (fault kind) e p = p
+  limit-right clear e p = p
+  limit-right tick e p = p
+
+  -- theorem 5, for one call: of any state, reached by a list or not
+  pub range-kept : isAccepted s call ≡ true → InRange s → InRange (accept s call)
+  unfolding soundBy overrunUnder stopUnder
+  range-kept into was =
+      let now = call .time in
+      let past = on-time s call into .0 in
+      let sound = later-stored now (s .last) (s .sound) past (was .sound) in
+      let opening = later-stored now (s .last) (s .opening) past (was .opening) in
+      let overrun = overrun-stored (call .event) (later-stored now (s .last) (s .overrun) past (was .overrun)) in
+      let stop = later-stored now (s .last) (s .stop) past (was .stop) in
+      let wave = waveFor (afterLatch s call) in
+      record {
+        wave = wave-allowed (afterLatch s call);
+        limit = limit-right (call .event) (arguments-right s call into) (was .limit);
+        rated = was .rated;
+        pause = was .pause;
+        sound = either-stored now (pairAt s call .sampled && pairAt s call .this .sound) (setTo now) (s .sound) (now-stored now) sound;
+        opening = either-stored now (opensAt s call) (setTo now) (s .opening) (now-stored now) opening;
+        overrun = either-stored now (opensAt s call) empty (afterWave s call .overrun) (none-stored now)
+            (either-stored now (driven wave) (overrunBy now (call .event) s) empty overrun (none-stored now));
+        stop = either-stored now (opensAt s call) empty (afterWave s call .stop) (none-stored now) (stop-stored now wave stop);
+      }
+    where
+      stop-stored : (now wave : ℕ) → storedAllowed now (s .stop) ≡ true → storedAllowed now (stopUnder now wave (s .closed) (s .stop)) ≡ true
+      stop-stored now wave p =
+          either-stored now (s .closed && eqb wave steadyHigh) (startedBy now (s .stop)) _ (started-stored now (s .stop) p)
+          (either-stored now (driven wave) empty (s .stop) (none-stored now) p)

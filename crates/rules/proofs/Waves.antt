@@ -1,0 +1,70 @@
+-- What the wave of step 3 is: 0, 1000 or a driven one, and what a driven one tells.
+use mathlib.Core.Path.{_≡_, refl, sym, _∙_, ap}
+use mathlib.Core.Bool.{Bool, true, false, _&&_, _||_, not, cond}
+use mathlib.Core.Logic.{_↔_}
+use Prim.Native.Nat.{ℕ, _≤_, _<_}
+use native.Mathlib.Omega.{arith}
+use lib.Dec.{eqb, ltb}
+use borrow.Author.Tests.{ltb-false}
+use Rattle.units.specs.Range.{fromTo}
+use Rattle.units.specs.Wave.{driven}
+use Rattle.units.proofs.FromTo.{inside}
+use Rattle.duty.specs.DutyFor.{dutyFor, duty, IsGreatest}
+use Rattle.duty.proofs.Laws.{greatest}
+use Rattle.rules.specs.Lent.{waveAllowed}
+use Rattle.rules.specs.State.{State, anyFault}
+use Rattle.rules.specs.Step3Wave.{steadyLow, steadyHigh, isUAE, unventilatedD, available, heldHigh, sent, waveFor}
+use Rattle.rules.proofs.Booleans.{clash}
+
+-- no duty is held back
+pub record Offers (s : State) : Type 0 where
+  pub enough : 6000 ≤ available s
+  pub state : isUAE (s .settled) ≡ false
+  pub ventilated : unventilatedD s ≡ false
+
+module _ (s : State) where
+  offers : heldHigh s ≡ false → Offers s
+  unfolding heldHigh
+  offers e = go (ltb (available s) 6000) (isUAE (s .settled)) (unventilatedD s) refl refl refl e
+    where
+      go : (low state plain : Bool) → ltb (available s) 6000 ≡ low → isUAE (s .settled) ≡ state → unventilatedD s ≡ plain
+          → low || (state || plain) ≡ false → Offers s
+      go true state plain p q r f = clash refl f
+      go false true plain p q r f = clash refl f
+      go false false true p q r f = clash refl f
+      go false false false p q r f = record { enough = ltb-false (available s) 6000 p; state = q; ventilated = r }
+
+  -- the duty that is sent is from 100 to 960
+  sent-driven : 6000 ≤ available s → driven (sent (dutyFor (available s))) ≡ true
+  unfolding sent driven
+  sent-driven enough =
+      let known = greatest (available s) enough in
+      rw (known .1) (inside 100 960 (known .0) (known .2 .least) (known .2 .most))
+
+  -- the three kinds of wave
+  pub data WaveIs (wave : ℕ) : Type 0 where
+    low : wave ≡ steadyLow → anyFault (s .faults) ≡ true → WaveIs wave
+    high : wave ≡ steadyHigh → anyFault (s .faults) ≡ false → WaveIs wave
+    square : driven wave ≡ true → anyFault (s .faults) ≡ false → Offers s → WaveIs wave
+
+  pub wave-is : WaveIs (waveFor s)
+  unfolding waveFor
+  wave-is = go (anyFault (s .faults)) (heldHigh s) refl refl
+    where
+      go : (f h : Bool) → anyFault (s .faults) ≡ f → heldHigh s ≡ h → WaveIs (cond f steadyLow (cond h steadyHigh (sent (dutyFor (available s)))))
+      go true h p q = low refl p
+      go false true p q = high refl p
+      go false false p q = square (sent-driven (offers q .enough)) p (offers q)
+
+  pub wave-allowed : waveAllowed (waveFor s) ≡ true
+  unfolding waveAllowed driven fromTo
+  wave-allowed = go (waveFor s) wave-is
+    where
+      either : (a b : Bool) → a || (true || b) ≡ true
+      either true b = refl
+      either false b = refl
+
+      go : (wave : ℕ) → WaveIs wave → waveAllowed wave ≡ true
+      go wave (low is fault) = rw is
+      go wave (high is none) = rw is
+      go wave (square is none offer) = rw is (either (eqb wave steadyLow) (eqb wave steadyHigh))

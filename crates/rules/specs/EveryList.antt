@@ -1,0 +1,47 @@
+-- What holds of every list of calls after an accepted begin: refused calls anywhere in it, and any clock. Proved in proofs/EveryList.antt.
+use mathlib.Core.Path.{_≡_}
+use mathlib.Core.Bool.{Bool, true, false}
+use mathlib.Core.List.{List}
+use mathlib.Core.Logic.{_↔_, _⊎_}
+use Prim.Native.Nat.{ℕ, suc, _+_, _≤_, _<_}
+use lib.ListN.{length}
+use Rattle.units.specs.Wave.{driven}
+use Rattle.pilot.specs.Bands.{bandB, ready}
+use Rattle.rules.specs.Begin.{Begin}
+use Rattle.rules.specs.Calls.{Call}
+use Rattle.rules.specs.Claim.{Demand3}
+use Rattle.rules.specs.Lent.{altered}
+use Rattle.rules.specs.Refusals.{refusal}
+use Rattle.rules.specs.Replay.{replay}
+use Rattle.rules.specs.State.{State, anyFault}
+use Rattle.rules.specs.Step3Wave.{steadyLow, available}
+use Rattle.rules.specs.Traces.{before, callAt, lentAt, replyBefore, answered}
+
+-- a state that some list leads to
+pub record Reached (s : State) : Type 0 where
+  pub wave-low : (s .wave ≡ steadyLow) ↔ (anyFault (s .faults) ≡ true)
+  -- a driven wave: B, C or ventilated D settled, and 6,000 or more available
+  pub driven-settled : driven (s .wave) ≡ true → (s .settled ≡ bandB) ⊎ (ready (s .settled) (s .settings .ventilation) ≡ true)
+  pub driven-available : driven (s .wave) ≡ true → 6000 ≤ available s
+  -- open: no over-run and no stop
+  pub open-no-overrun : s .closed ≡ false → s .overrun .set ≡ false
+  pub open-no-stop : s .closed ≡ false → s .stop .set ≡ false
+  -- an over-run runs only closed and driven
+  pub overrun-closed : s .overrun .set ≡ true → s .closed ≡ true
+  pub overrun-driven : s .overrun .set ≡ true → driven (s .wave) ≡ true
+  -- closed: no fault, a sound sample within 80 of the last accepted call, and C or ventilated D settled
+  pub closed-no-fault : s .closed ≡ true → anyFault (s .faults) ≡ false
+  pub closed-heard : s .closed ≡ true → s .sound .set ≡ true
+  pub closed-sound : s .closed ≡ true → s .last ≤ s .sound .time + 80
+  pub closed-ready : s .closed ≡ true → ready (s .settled) (s .settings .ventilation) ≡ true
+
+pub record EveryList (begin : Begin) (calls : List Call) : Type 0 where
+  pub demand3 : Demand3 (answered begin calls)
+  -- each reply's refusal number is the table's, and its wave the replay's
+  pub refusals : (k : ℕ) → k < length calls → replyBefore begin calls (suc k) .refusal ≡ refusal (before begin calls k) (callAt begin calls k)
+  pub waves : (k : ℕ) → k ≤ length calls → replyBefore begin calls k .wave ≡ before begin calls k .wave
+  -- the controller keeps what the replay keeps, and the closings that it last told; refusal 1 never names it
+  pub kept : (k : ℕ) → k ≤ length calls → lentAt begin calls k .kept ≡ before begin calls k
+  pub carried : (k : ℕ) → k ≤ length calls → lentAt begin calls k .closings ≡ replyBefore begin calls k .closings
+  pub not-altered : (k : ℕ) → k ≤ length calls → altered (lentAt begin calls k) ≡ false
+  pub reached : Reached (replay begin calls)
