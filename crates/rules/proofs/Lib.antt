@@ -13,3 +13,6 @@ pub mod Waves
 pub mod Ranges
 pub mod Lists
 pub mod Lending
+pub mod Samples
+pub mod Faulted
+pub mod Reaching

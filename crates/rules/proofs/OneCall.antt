@@ -84,6 +84,7 @@ module _ (s : State) (call : Heard) where
 pub record ProvenPair (pair : Pair) : Type 0 where
   pub sampled : pair .sampled ≡ true
   pub partner : pair .previous .kept ≡ true
+  pub in-band : inOneBand pair ≡ true
   pub first-proven : pair .previous .verdict .proven ≡ true
   pub second-proven : pair .this .proven ≡ true
   pub one-band : pair .previous .verdict .band ≡ pair .this .band
@@ -109,6 +110,7 @@ proven-pair pair holds =
     record {
       sampled = samples .0;
       partner = samples .1;
+      in-band = halves .0;
       first-proven = proven .0;
       second-proven = proven .1;
       one-band = same-band (old .band) (pair .this .band) (band .1);
