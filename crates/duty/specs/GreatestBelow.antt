@@ -11,4 +11,6 @@ orElse (some n) other = some n
 -- the greatest number below `end` that passes the test, or none: the last one if it passes, else the greatest below it
 unfoldable pub greatestBelow : (ℕ → Bool) → ℕ → Option ℕ
 greatestBelow test zero = none
-greatestBelow test (suc last) = orElse (cond (test last) (some last) none) (greatestBelow test last)
+greatestBelow test (suc last) =
+    let rest = greatestBelow test last in
+    orElse (cond (test last) (some last) none) rest

@@ -16,3 +16,8 @@ pub mod Lending
 pub mod Samples
 pub mod Faulted
 pub mod Reaching
+pub mod EveryList
+pub mod Squares
+pub mod Sequences
+pub mod BenchRows
+pub mod OtherRows

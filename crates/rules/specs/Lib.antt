@@ -17,3 +17,6 @@ pub mod Answer
 pub mod Claim
 pub mod Traces
 pub mod EveryList
+pub mod Sequences
+pub mod BenchRows
+pub mod OtherRows

@@ -3,6 +3,6 @@ mod Sizes
 mod Turns
 mod Counting
 mod Gathering
-mod Refusals
+pub mod Refusals
 mod Extremes
 pub mod Laws

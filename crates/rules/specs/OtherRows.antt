@@ -1,0 +1,260 @@
+-- More sequences: the faults seen in the field, and rules that no other theorem pins down. Proved in proofs/OtherRows.antt.
+use mathlib.Core.Bool.{true, false}
+use mathlib.Core.List.{List, [], _∷_, _++_}
+use Rattle.pilot.specs.Bands.{bandA, bandB, bandC, bandD, bandE}
+use Rattle.rules.specs.Calls.{limit, measure, fault, clear, tick}
+use Rattle.rules.specs.Reply.{letterF, letterU}
+use Rattle.rules.specs.Sequences.{Sequence, steady, swing, brief, every, call, at32A, at80A, aired, charging}
+
+-- a limit of 0 that is repeated does not start the stop afresh
+abbrev pub limitRepeated : Sequence
+limitRepeated =
+    record {
+      begin = at32A 4900;
+      first = charging 4900 32000 ++ (brief 5000 (limit 0) ∷ (every 12 80 5020 (steady 6000) ++ (brief 5970 (limit 0) ∷ every 26 80 5980 (steady 6000))));
+      entries =
+          call 7999 tick 0 bandC 1 1000 true 0 1
+          ∷ call 8000 tick 0 bandC 1 1000 false 0 1
+          ∷ [];
+    }
+
+-- a measure within the bound ends an over-run, and one above it does not start a running one afresh
+abbrev pub overRunEnds : Sequence
+overRunEnds =
+    record {
+      begin = at80A 0;
+      first = charging 0 80000 ++ (brief 100 (measure 88001) ∷ brief 110 (measure 88000) ∷ brief 120 (measure 88001)
+          ∷ (every 60 80 120 (swing 6000) ++ (brief 4900 (measure 200000) ∷ every 3 80 4900 (swing 6000))));
+      entries =
+          call 5119 tick 0 bandC 2 960 true 0 1
+          ∷ call 5120 tick 0 letterF 0 0 false 2 1
+          ∷ [];
+    }
+
+-- a measure with the contactor open or the wave not driven starts nothing
+abbrev pub overRunOpen : Sequence
+overRunOpen =
+    record {
+      begin = at80A 0;
+      first = brief 0 (limit 80000) ∷ brief 10 (steady 9000) ∷ brief 20 (steady 9000) ∷ brief 25 (measure 200000) ∷ brief 30 (swing 6000) ∷ every 64 80 40 (swing 6000);
+      entries =
+          call 5100 tick 0 bandC 2 960 true 0 1
+          ∷ [];
+    }
+
+-- between two bands nothing settles; 7,499 is sound and 7,500 is not
+abbrev pub betweenBands : Sequence
+betweenBands =
+    record {
+      begin = at80A 0;
+      first = charging 0 80000;
+      entries =
+          call 50 (swing 7200) 0 bandC 2 960 true 0 1
+          ∷ call 60 (swing 7200) 0 bandC 2 960 true 0 1
+          ∷ call 70 (swing 7499) 0 bandC 2 960 true 0 1
+          ∷ call 80 (swing 7500) 0 bandC 2 960 true 0 1
+          ∷ call 90 (swing 7500) 0 bandC 2 960 false 0 1
+          ∷ [];
+    }
+
+-- two diode-bad samples latch fault 1
+abbrev pub noDiode : Sequence
+noDiode =
+    record {
+      begin = at80A 0;
+      first = charging 0 80000;
+      entries =
+          call 50 (steady 6000) 0 bandC 2 960 true 0 1
+          ∷ call 60 (steady 6000) 0 letterF 0 0 false 1 1
+          ∷ [];
+    }
+
+-- a diode-bad sample from before an opening does not count
+abbrev pub diodeBefore : Sequence
+diodeBefore =
+    record {
+      begin = at80A 0;
+      first = charging 0 80000;
+      entries =
+          call 50 (steady 6000) 0 bandC 2 960 true 0 1
+          ∷ call 121 tick 0 bandC 2 960 false 0 1
+          ∷ call 130 (steady 6000) 0 bandC 2 960 false 0 1
+          ∷ call 140 (steady 6000) 0 letterF 0 0 false 1 1
+          ∷ [];
+    }
+
+-- a refused call moves no clock; equal times are accepted
+abbrev pub clock : Sequence
+clock =
+    record {
+      begin = at80A 0;
+      first = [];
+      entries =
+          call 100 (limit 80001) 7 letterU 0 1000 false 0 0
+          ∷ call 50 (limit 80000) 0 letterU 0 1000 false 0 0
+          ∷ call 49 tick 2 letterU 0 1000 false 0 0
+          ∷ call 50 tick 0 letterU 0 1000 false 0 0
+          ∷ call 1000000000001 tick 3 letterU 0 1000 false 0 0
+          ∷ call 1000000000000 tick 0 letterU 0 1000 false 0 0
+          ∷ call 50 tick 2 letterU 0 1000 false 0 0
+          ∷ [];
+    }
+
+-- refusals 7 and 8 stand beside the reply as it was
+abbrev pub refusedArguments : Sequence
+refusedArguments =
+    record {
+      begin = at80A 0;
+      first = charging 0 80000;
+      entries =
+          call 50 (measure 200001) 7 bandC 2 960 true 0 1
+          ∷ call 50 (measure 200000) 0 bandC 2 960 true 0 1
+          ∷ call 50 (fault 2) 8 bandC 2 960 true 0 1
+          ∷ call 50 (fault 6) 8 bandC 2 960 true 0 1
+          ∷ call 50 (limit 80001) 7 bandC 2 960 true 0 1
+          ∷ [];
+    }
+
+-- each fault of a fault call, and clear
+abbrev pub faultsTold : Sequence
+faultsTold =
+    record {
+      begin = at80A 0;
+      first = charging 0 80000;
+      entries =
+          call 50 (fault 4) 0 letterF 0 0 false 4 1
+          ∷ call 60 (fault 3) 0 letterF 0 0 false 3 1
+          ∷ call 60 (fault 5) 0 letterF 0 0 false 3 1
+          ∷ call 70 clear 0 letterU 0 1000 false 0 1
+          ∷ call 80 (steady 6000) 0 letterU 0 1000 false 0 1
+          ∷ call 90 (steady 6000) 0 bandC 2 960 false 0 1
+          ∷ call 100 (fault 5) 0 letterF 0 0 false 5 1
+          ∷ call 110 clear 0 letterU 0 1000 false 0 1
+          ∷ [];
+    }
+
+-- a fault call unsettles and forgets, also for a latched fault; under a fault samples settle
+abbrev pub faultAgain : Sequence
+faultAgain =
+    record {
+      begin = at80A 0;
+      first = brief 0 (limit 80000) ∷ [];
+      entries =
+          call 10 (fault 3) 0 letterF 0 0 false 3 0
+          ∷ call 20 (steady 9000) 0 letterF 0 0 false 3 0
+          ∷ call 30 (steady 9000) 0 letterF 0 0 false 3 0
+          ∷ call 35 clear 0 bandB 2 960 false 0 0
+          ∷ call 36 (fault 3) 0 letterF 0 0 false 3 0
+          ∷ call 37 (fault 3) 0 letterF 0 0 false 3 0
+          ∷ call 38 (steady 9000) 0 letterF 0 0 false 3 0
+          ∷ call 39 (steady 9000) 0 letterF 0 0 false 3 0
+          ∷ call 40 (fault 3) 0 letterF 0 0 false 3 0
+          ∷ call 50 clear 0 letterU 0 1000 false 0 0
+          ∷ call 60 (steady 9000) 0 letterU 0 1000 false 0 0
+          ∷ call 70 (fault 4) 0 letterF 0 0 false 4 0
+          ∷ call 80 clear 0 letterU 0 1000 false 0 0
+          ∷ call 90 (steady 9000) 0 letterU 0 1000 false 0 0
+          ∷ call 100 (steady 9000) 0 bandB 2 960 false 0 0
+          ∷ [];
+    }
+
+-- with ventilation D is ready; the pause as begin names it
+abbrev pub ventilatedPost : Sequence
+ventilatedPost =
+    record {
+      begin = aired;
+      first = [];
+      entries =
+          call 0 (limit 16000) 0 letterU 0 1000 false 0 0
+          ∷ call 10 (steady 3000) 0 letterU 0 1000 false 0 0
+          ∷ call 20 (steady 3000) 0 bandD 2 266 false 0 0
+          ∷ call 30 (swing 3000) 0 bandD 2 266 false 0 0
+          ∷ call 40 (swing 3000) 0 bandD 2 266 true 0 1
+          ∷ call 50 (swing 9000) 0 bandD 2 266 true 0 1
+          ∷ call 60 (swing 9000) 0 bandB 2 266 false 0 1
+          ∷ call 1050 (swing 6000) 0 bandB 2 266 false 0 1
+          ∷ call 1059 (swing 6000) 0 bandC 2 266 false 0 1
+          ∷ call 1060 (swing 6000) 0 bandC 2 266 true 0 2
+          ∷ [];
+    }
+
+-- without it D opens and gets no duty
+abbrev pub plainPost : Sequence
+plainPost =
+    record {
+      begin = at80A 0;
+      first = charging 0 80000;
+      entries =
+          call 50 (swing 3000) 0 bandC 2 960 true 0 1
+          ∷ call 60 (swing 3000) 0 bandD 1 1000 false 0 1
+          ∷ call 70 (steady 3000) 0 bandD 1 1000 false 0 1
+          ∷ [];
+    }
+
+-- A and E get no duty; a limit below 6,000 gives none, and one above the rated current no more than that
+abbrev pub otherStates : Sequence
+otherStates =
+    record {
+      begin = at32A 0;
+      first = [];
+      entries =
+          call 0 (limit 32000) 0 letterU 0 1000 false 0 0
+          ∷ call 10 (steady 12000) 0 letterU 0 1000 false 0 0
+          ∷ call 20 (steady 12000) 0 bandA 1 1000 false 0 0
+          ∷ call 30 (steady 0) 0 bandA 1 1000 false 0 0
+          ∷ call 40 (steady 0) 0 bandE 0 1000 false 0 0
+          ∷ call 50 (steady 9000) 0 bandE 0 1000 false 0 0
+          ∷ call 60 (steady 9000) 0 bandB 2 533 false 0 0
+          ∷ call 70 (limit 5999) 0 bandB 1 1000 false 0 0
+          ∷ call 80 (limit 6000) 0 bandB 2 100 false 0 0
+          ∷ call 90 (limit 80000) 0 bandB 2 533 false 0 0
+          ∷ [];
+    }
+
+-- a sample without a band is the previous one all the same
+abbrev pub noBandBetween : Sequence
+noBandBetween =
+    record {
+      begin = at80A 0;
+      first = [];
+      entries =
+          call 0 (limit 80000) 0 letterU 0 1000 false 0 0
+          ∷ call 10 (steady 9000) 0 letterU 0 1000 false 0 0
+          ∷ call 20 (steady 9000) 0 bandB 2 960 false 0 0
+          ∷ call 30 (swing 6000) 0 bandB 2 960 false 0 0
+          ∷ call 40 (swing 7200) 0 bandB 2 960 false 0 0
+          ∷ call 50 (swing 6000) 0 bandB 2 960 false 0 0
+          ∷ call 60 (swing 6000) 0 bandC 2 960 true 0 1
+          ∷ [];
+    }
+
+-- a limit that comes back ends the stop
+abbrev pub limitBack : Sequence
+limitBack =
+    record {
+      begin = at80A 0;
+      first = charging 0 80000 ++ (brief 50 (limit 0) ∷ (every 37 80 60 (steady 6000) ++ (brief 3010 (limit 80000) ∷ [])));
+      entries =
+          call 3020 (swing 6000) 0 bandC 2 960 true 0 1
+          ∷ call 3060 tick 0 bandC 2 960 true 0 1
+          ∷ [];
+    }
+
+abbrev pub otherRows : List Sequence
+otherRows =
+    limitRepeated
+    ∷ overRunEnds
+    ∷ overRunOpen
+    ∷ betweenBands
+    ∷ noDiode
+    ∷ diodeBefore
+    ∷ clock
+    ∷ refusedArguments
+    ∷ faultsTold
+    ∷ faultAgain
+    ∷ ventilatedPost
+    ∷ plainPost
+    ∷ otherStates
+    ∷ noBandBetween
+    ∷ limitBack
+    ∷ []
