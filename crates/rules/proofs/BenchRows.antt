@@ -41,8 +41,13 @@ waits : (t : ℕ) → 60 ≤ t → t + 10 < 3060
     → next (sampling false (setTo 60) empty t) (heardOf (brief (t + 10) (swing 6000))) ≡ sampling false (setTo 60) empty (t + 10)
 unfolding computed
 waits t late early =
-    rw (le-ltb 1000000000000 (t + 10) (omega arith), le-ltb (t + 10) t (omega arith), le-leb t t (omega arith), le-leb 60 t late,
-    lt-leb 3060 (t + 10) early)
+    rw (
+      le-ltb 1000000000000 (t + 10) (omega arith),
+      le-ltb (t + 10) t (omega arith),
+      le-leb t t (omega arith),
+      le-leb 60 t late,
+      lt-leb 3060 (t + 10) early,
+    )
 
 -- closed, and no over-run is 5,000 old
 holds : (overrun : Moment) (t : ℕ) → t + 80 ≤ 1000000000000 → not (overrun .set) || leb (overrun .time) t ≡ true
@@ -50,8 +55,14 @@ holds : (overrun : Moment) (t : ℕ) → t + 80 ≤ 1000000000000 → not (overr
     → next (sampling true empty overrun t) (heardOf (brief (t + 80) (swing 6000))) ≡ sampling true empty overrun (t + 80)
 unfolding computed
 holds overrun t within stored young =
-    rw (le-ltb 1000000000000 (t + 80) within, le-ltb (t + 80) t (omega arith), le-leb t t (omega arith), stored, young,
-    le-ltb (t + 80 + 80) (t + 80) (omega arith))
+    rw (
+      le-ltb 1000000000000 (t + 80) within,
+      le-ltb (t + 80) t (omega arith),
+      le-leb t t (omega arith),
+      stored,
+      young,
+      le-ltb (t + 80 + 80) (t + 80) (omega arith),
+    )
 
 first-charge : Tells firstCharge
 unfolding computed

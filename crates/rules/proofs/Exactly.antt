@@ -83,12 +83,14 @@ module _ (t : Trace) (kept : Kept) (laws : Lawful t kept) where
     where
       wide : ((k : ℕ) × HeldIn (t .length) k) → (k : ℕ) × HeldSince t k
       wide known =
-          let since = known .1 in
-          (known .0, record {
-            accepted = (since .below, since .accepted);
-            met = since .met;
-            no-cause = λ j after accepted. since .no-cause j after (accepted .0) (accepted .1);
-          })
+          let since = known .1 in (
+            known .0,
+            record {
+              accepted = (since .below, since .accepted);
+              met = since .met;
+              no-cause = λ j after accepted. since .no-cause j after (accepted .0) (accepted .1);
+            },
+          )
 
       narrow : {k : ℕ} → HeldSince t k → HeldIn (t .length) k
       narrow since =

@@ -21,3 +21,5 @@ pub mod Squares
 pub mod Sequences
 pub mod BenchRows
 pub mod OtherRows
+pub mod RangeRows
+pub mod RefusalsAre

@@ -132,7 +132,7 @@ module _ (s : State) (call : Heard) where
   rested-gives kept long was =
       let same : afterOpening s call .opening ≡ s .opening = ap (λ b. cond b (setTo (call .time)) (s .opening)) kept in
       let test : cond (s .opening .set) (leb (s .opening .time + s .settings .pause) (call .time)) true ≡ true =
-          ap (λ m. cond (m .set) (leb (m .time + s .settings .pause) (call .time)) true) (sym same) ∙ long in
+      ap (λ m. cond (m .set) (leb (m .time + s .settings .pause) (call .time)) true) (sym same) ∙ long in
       leb-true (s .opening .time + s .settings .pause) (call .time) (rw was at test)
 
   pub meets-all : closesAt s call ≡ true → MeetsAll s call

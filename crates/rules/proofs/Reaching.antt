@@ -173,7 +173,7 @@ module _ (s : State) (call : Heard) where
       let all = meets-all s call met in
       let offer = driven-offers s call (all .driven-wave) in
       let sound : accept s call .sound ≡ setTo (call .time) =
-          rw (all .pair .sampled, verdict-sound s (call .event) (all .pair .second-proven)) in
+      rw (all .pair .sampled, verdict-sound s (call .event) (all .pair .second-proven)) in
       record {
         no-fault = offer .0;
         heard = ap (λ m. m .set) sound;
@@ -186,7 +186,7 @@ module _ (s : State) (call : Heard) where
       settled true p pair state = clash (ap (λ b. isUAE (cond b 0 (settledBy (pairAt s call) (s .settled)))) p) state
       settled false p pair state =
           let is : accept s call .settled ≡ verdict s (call .event) .band =
-              settled-is p ∙ ap (λ b. cond b (verdict s (call .event) .band) (s .settled)) (pair .in-band) in
+          settled-is p ∙ ap (λ b. cond b (verdict s (call .event) .band) (s .settled)) (pair .in-band) in
           rw is (verdict-ready s (call .event) (pair .second-proven))
 
   -- the causes that did not hold
@@ -272,11 +272,11 @@ module _ (s : State) (call : Heard) (into : isAccepted s call ≡ true)
           band : (b : Bool) → inOneBand (pairAt s call) ≡ b → ready (accept s call .settled) (s .settings .ventilation) ≡ true
           band false q =
               let is : accept s call .settled ≡ s .settled =
-                  settled-is s call p ∙ ap (λ b. cond b (verdict s (call .event) .band) (s .settled)) q in
+              settled-is s call p ∙ ap (λ b. cond b (verdict s (call .event) .band) (s .settled)) q in
               rw is before
           band true q =
               let is : accept s call .settled ≡ verdict s (call .event) .band =
-                  settled-is s call p ∙ ap (λ b. cond b (verdict s (call .event) .band) (s .settled)) q in
+              settled-is s call p ∙ ap (λ b. cond b (verdict s (call .event) .band) (s .settled)) q in
               let fit = band-fits (pairAt s call) (verdict-fits s (call .event)) old q (calm .one) in
               rw is (fits-ready (verdict s (call .event) .band) (s .settings .ventilation) (fit .0) (fit .1)
               (ap (λ n. eqb n bandD && not (s .settings .ventilation)) (sym is) ∙ calm .three))

@@ -20,3 +20,5 @@ pub mod EveryList
 pub mod Sequences
 pub mod BenchRows
 pub mod OtherRows
+pub mod RangeRows
+pub mod RefusalsAre

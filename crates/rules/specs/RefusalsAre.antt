@@ -1,0 +1,32 @@
+-- Each refusal number comes for its condition, and for nothing else: what demand 1 says of a call that is lent any controller.
+-- Proved in proofs/RefusalsAre.antt.
+use mathlib.Core.Path.{_≡_}
+use mathlib.Core.Bool.{true, false}
+use mathlib.Core.List.{List}
+use mathlib.Core.Logic.{_↔_, _⊎_}
+use Prim.Native.Nat.{ℕ, _≤_, _<_}
+use lib.IntN.{ℤ}
+use Rattle.window.specs.Weighing.{refused, weighing}
+use Rattle.rules.specs.Begin.{largestTime}
+use Rattle.rules.specs.Calls.{Event, Call, sample, limit, measure, fault, clear, tick, heard}
+use Rattle.rules.specs.Lent.{Lent, altered, lentRefusal}
+
+-- the time is not above the largest, nor below that of the last accepted call
+abbrev pub OnTime : Lent → Call → Type 0
+OnTime lent call = (call .time ≤ largestTime) × (lent .kept .last ≤ call .time)
+
+-- the arguments are refused with a number; which window is refused with which is window's to say
+abbrev pub WrongFor : ℕ → Event (List ℤ) → Type 0
+WrongFor number (sample window) = weighing window ≡ refused number
+WrongFor number (limit current) = (number ≡ 7) × (80000 < current)
+WrongFor number (measure current) = (number ≡ 7) × (200000 < current)
+WrongFor number (fault kind) = (number ≡ 8) × ((kind < 3) ⊎ (5 < kind))
+WrongFor number clear = ⊥
+WrongFor number tick = ⊥
+
+pub record RefusalsAre (lent : Lent) (call : Call) : Type 0 where
+  pub three : (lentRefusal lent (heard call) ≡ 3) ↔ (largestTime < call .time)
+  pub two : (lentRefusal lent (heard call) ≡ 2) ↔ ((call .time ≤ largestTime) × (call .time < lent .kept .last))
+  pub one : (lentRefusal lent (heard call) ≡ 1) ↔ (OnTime lent call × (altered lent ≡ true))
+  pub later : (number : ℕ) → 4 ≤ number
+      → (lentRefusal lent (heard call) ≡ number) ↔ (OnTime lent call × (altered lent ≡ false) × WrongFor number (call .event))
