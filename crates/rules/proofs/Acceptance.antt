@@ -1,13 +1,13 @@
 -- What an accepted call tells of its time and arguments, and what an accepted begin tells of its values.
-use mathlib.Core.Path.{_≡_, refl, sym, _∙_, ap}
+use mathlib.Core.Path.{_≡_, refl}
 use mathlib.Core.Bool.{Bool, true, false, _&&_, _||_, cond}
-use Prim.Native.Nat.{ℕ, _≤_, _<_}
+use Prim.Native.Nat.{ℕ, _≤_}
 use native.Mathlib.Omega.{arith}
 use lib.Dec.{eqb, leb, ltb}
-use borrow.Author.Tests.{eqb-true, ltb-false, ltb-true, leb-true}
+use borrow.Author.Tests.{eqb-true, ltb-false, leb-true}
 use Rattle.units.specs.Range.{fromTo}
 use Rattle.units.proofs.LevelOrder.{and-parts}
-use Rattle.rules.specs.Begin.{Begin, largestTime, defaultPause, ratedAllowed, pauseAllowed, pauseFor, beginRefusal}
+use Rattle.rules.specs.Begin.{Begin, largestTime, ratedAllowed, pauseAllowed, pauseFor, beginRefusal}
 use Rattle.rules.specs.Calls.{Heard}
 use Rattle.rules.specs.Refusals.{orElse, timeRefusal, argumentRefusal, refusal}
 use Rattle.rules.specs.Replay.{isAccepted}

@@ -11,9 +11,9 @@ use Rattle.rules.specs.Answer.{begun, next}
 use Rattle.rules.specs.BenchRows.{firstCharge, unsoundTwice, secondCharge, limitWithdrawn, overRun, noOverRun, benchRows}
 use Rattle.rules.specs.Lent.{Lent}
 use Rattle.rules.specs.Calls.{measure}
-use Rattle.rules.specs.Sequences.{Brief, Tells, AllTell, swing, brief, every, at32A, charging}
-use Rattle.rules.specs.State.{State, Moment, noFaults, setTo, empty}
-use Rattle.rules.proofs.Sequences.{heardOf, lentOn, tells-by, computed, lasting}
+use Rattle.rules.specs.Sequences.{Brief, Tells, AllTell, swing, brief, at32A, charging}
+use Rattle.rules.specs.State.{Moment, noFaults, setTo, empty}
+use Rattle.rules.proofs.Sequences.{heardOf, tells-by, computed, lasting}
 
 -- a post at 32 A with samples that are proven in C, the last at a time
 abbrev sampling : Bool → Moment → Moment → ℕ → Lent

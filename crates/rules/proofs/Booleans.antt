@@ -1,6 +1,6 @@
 -- Tests and what they tell.
-use mathlib.Core.Path.{_≡_, refl, sym, _∙_}
-use mathlib.Core.Bool.{Bool, true, false, _&&_, _||_, not}
+use mathlib.Core.Path.{_≡_, sym, _∙_}
+use mathlib.Core.Bool.{Bool, true, false}
 use Rattle.units.proofs.LevelOrder.{both-ways}
 
 -- a test that came out both ways

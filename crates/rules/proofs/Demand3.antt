@@ -1,5 +1,4 @@
 -- Demand 3 for every trace that has the laws of one call.
-use Prim.Native.Nat.{ℕ}
 use native.Mathlib.Omega.{arith}
 use Rattle.rules.specs.Claim.{Trace, Demand3}
 use Rattle.rules.proofs.Exactly.{exactly}

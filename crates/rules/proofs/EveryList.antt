@@ -1,15 +1,12 @@
 -- Every list of calls after an accepted begin.
 use mathlib.Core.Path.{_≡_, refl, sym, _∙_, ap}
-use mathlib.Core.Bool.{false}
 use mathlib.Core.List.{List}
-use Prim.Native.Nat.{ℕ, suc, _≤_, _<_}
 use native.Mathlib.Omega.{arith}
-use lib.ListN.{length}
 use Rattle.rules.specs.Begin.{Begin, beginRefusal}
 use Rattle.rules.specs.Calls.{Call}
 use Rattle.rules.specs.EveryList.{EveryList}
 use Rattle.rules.specs.Lent.{altered, lentRefusal}
-use Rattle.rules.specs.Traces.{before, callAt, lentAt, replyBefore}
+use Rattle.rules.specs.Traces.{callAt, replyBefore}
 use Rattle.rules.proofs.Lending.{lent-refusal, lent-is, tally-not-altered, reply-is, closings-told, demand3}
 use Rattle.rules.proofs.Reaching.{list-reaches}
 

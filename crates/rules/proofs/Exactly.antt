@@ -1,12 +1,12 @@
 -- Closed exactly when some accepted call met every closing condition and no opening cause has held in a later accepted one.
-use mathlib.Core.Path.{_≡_, refl, sym, _∙_}
-use mathlib.Core.Bool.{Bool, true, false}
+use mathlib.Core.Path.{_≡_, sym, _∙_}
+use mathlib.Core.Bool.{true, false}
 use mathlib.Core.Logic.{_↔_}
 use Prim.Native.Nat.{ℕ, zero, suc, _≤_, _<_}
 use native.Mathlib.Decide.{decLt}
 use native.Mathlib.Nat.{not-suc-le-zero}
 use native.Mathlib.Omega.{arith}
-use Rattle.rules.specs.Claim.{Trace, Accepted, HeldSince}
+use Rattle.rules.specs.Claim.{Trace, HeldSince}
 use Rattle.rules.proofs.Booleans.{clash}
 use Rattle.rules.proofs.Lawful.{Kept, Lawful, Law, Outcome, refused, stays, shuts, opens, outcome}
 

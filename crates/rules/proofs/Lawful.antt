@@ -1,7 +1,7 @@
 -- The laws of one call that the list theorem rests on. Requests that change a step touch these laws and not the theorem.
-use mathlib.Core.Path.{_≡_, refl, sym, _∙_, ap}
+use mathlib.Core.Path.{_≡_, refl, sym, _∙_}
 use mathlib.Core.Bool.{Bool, true, false, _&&_, _||_, not, cond}
-use Prim.Native.Nat.{ℕ, zero, suc, _+_, _≤_, _<_}
+use Prim.Native.Nat.{ℕ, suc, _+_, _≤_, _<_}
 use Rattle.pilot.specs.Bands.{noBand}
 use Rattle.rules.specs.Begin.{largestTime}
 use Rattle.rules.specs.Claim.{Trace}

@@ -1,20 +1,20 @@
 -- One controller lent from call to call keeps what the replay keeps, and refusal 1 never comes.
 use mathlib.Core.Path.{_≡_, refl, sym, _∙_, ap}
-use mathlib.Core.Bool.{Bool, true, false, _&&_, _||_, not, cond}
+use mathlib.Core.Bool.{Bool, true, false, _&&_, cond}
 use mathlib.Core.List.{List, [], _∷_}
-use Prim.Native.Nat.{ℕ, zero, suc, _+_, _≤_, _<_}
+use Prim.Native.Nat.{ℕ, zero, suc, _≤_, _<_}
 use native.Mathlib.Nat.{not-suc-le-zero, le-of-suc-le-suc}
 use native.Mathlib.Omega.{arith}
-use lib.Dec.{eqb, leb}
+use lib.Dec.{eqb}
 use lib.ListN.{length, getD, take}
 use borrow.Author.Tests.{le-leb}
-use Rattle.rules.specs.Accepted.{closesAt, accept}
+use Rattle.rules.specs.Accepted.{closesAt}
 use Rattle.rules.specs.Answer.{begun, acceptLent, next, lentAfter}
-use Rattle.rules.specs.Begin.{Begin, beginRefusal, fresh}
+use Rattle.rules.specs.Begin.{Begin, beginRefusal}
 use Rattle.rules.specs.Calls.{Call, Heard, heard}
-use Rattle.rules.specs.Claim.{Trace, closingsIn, Demand3}
-use Rattle.rules.specs.Lent.{Lent, mostClosings, inRange, altered, lentRefusal}
-use Rattle.rules.specs.Refusals.{orElse, timeRefusal, argumentRefusal, refusal}
+use Rattle.rules.specs.Claim.{Demand3}
+use Rattle.rules.specs.Lent.{Lent, mostClosings, altered, lentRefusal}
+use Rattle.rules.specs.Refusals.{refusal}
 use Rattle.rules.specs.Replay.{isAccepted, step, after, replay}
 use Rattle.rules.specs.State.{State}
 use Rattle.rules.specs.Step5Closing.{closingsBy}

@@ -15,6 +15,9 @@ pub mod Lists
 pub mod Lending
 pub mod Samples
 pub mod Faulted
+pub mod Offering
+pub mod Opened
+pub mod Held
 pub mod Reaching
 pub mod EveryList
 pub mod Squares

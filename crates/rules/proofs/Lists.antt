@@ -1,11 +1,11 @@
 -- What a fresh controller has and every accepted call keeps, every list leads to.
-use mathlib.Core.Path.{_≡_, refl, sym, _∙_, ap}
+use mathlib.Core.Path.{_≡_, refl}
 use mathlib.Core.Bool.{Bool, true, false}
 use mathlib.Core.List.{List, [], _∷_}
 use Rattle.units.specs.Range.{fromTo}
 use Rattle.units.specs.Wave.{driven}
 use Rattle.rules.specs.Accepted.{accept}
-use Rattle.rules.specs.Begin.{Begin, beginRefusal, fresh, pauseFor}
+use Rattle.rules.specs.Begin.{Begin, beginRefusal, fresh}
 use Rattle.rules.specs.Calls.{Call, Heard, heard}
 use Rattle.rules.specs.Lent.{waveAllowed, storedAllowed}
 use Rattle.rules.specs.Refusals.{limitAllowed}

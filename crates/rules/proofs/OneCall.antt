@@ -2,7 +2,6 @@
 use mathlib.Core.Path.{_≡_, refl, sym, _∙_, ap}
 use mathlib.Core.Bool.{Bool, true, false, _&&_, _||_, not, cond}
 use Prim.Native.Nat.{ℕ, _+_, _≤_}
-use native.Mathlib.Omega.{arith}
 use lib.Dec.{eqb, leb}
 use borrow.Author.Tests.{leb-true, eqb-true, eqb-false, not-true}
 use Rattle.units.specs.Wave.{driven}
@@ -11,7 +10,7 @@ use Rattle.pilot.specs.Bands.{noBand}
 use Rattle.rules.specs.Accepted.{pairAt, unsettlesAt, causeAt, opensAt, closesAt, afterOpening, accept}
 use Rattle.rules.specs.Calls.{Heard, isSample}
 use Rattle.rules.specs.Pairs.{Pair, verdict, paired, sameBand, inOneBand, bothProven}
-use Rattle.rules.specs.State.{State, Moment, Previous, setTo, forgotten}
+use Rattle.rules.specs.State.{State, Previous, setTo, forgotten}
 use Rattle.rules.specs.Step4Opening.{opens}
 use Rattle.rules.specs.Step5Closing.{rested, closes}
 use Rattle.rules.proofs.Booleans.{clash}

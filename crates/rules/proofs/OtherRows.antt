@@ -1,6 +1,6 @@
 -- The other sequences, computed.
 use mathlib.Core.Path.{refl}
-use Rattle.rules.specs.OtherRows.{limitRepeated, overRunEnds, overRunOpen, betweenBands, noDiode, diodeBefore, clock, refusedArguments, faultsTold, faultAgain, ventilatedPost, plainPost, otherStates, noBandBetween, limitBack, otherRows}
+use Rattle.rules.specs.OtherRows.{limitRepeated, overRunEnds, overRunOpen, betweenBands, noDiode, diodeBefore, noLimit, clock, refusedArguments, faultsTold, faultAgain, ventilatedPost, plainPost, otherStates, noBandBetween, limitBack, otherRows}
 use Rattle.rules.specs.Sequences.{Tells, AllTell}
 use Rattle.rules.proofs.Sequences.{tells-by, computed}
 
@@ -27,6 +27,10 @@ no-diode = tells-by noDiode _ refl refl refl refl
 diode-before : Tells diodeBefore
 unfolding computed
 diode-before = tells-by diodeBefore _ refl refl refl refl
+
+no-limit : Tells noLimit
+unfolding computed
+no-limit = tells-by noLimit _ refl refl refl refl
 
 clock-row : Tells clock
 unfolding computed
@@ -66,4 +70,4 @@ limit-back = tells-by limitBack _ refl refl refl refl
 
 pub other-rows : AllTell otherRows
 other-rows =
-    (limit-repeated, (over-run-ends, (over-run-open, (between-bands, (no-diode, (diode-before, (clock-row, (refused-arguments, (faults-told, (fault-again, (ventilated-post, (plain-post, (other-states, (no-band-between, (limit-back, tt)))))))))))))))
+    (limit-repeated, (over-run-ends, (over-run-open, (between-bands, (no-diode, (diode-before, (no-limit, (clock-row, (refused-arguments, (faults-told, (fault-again, (ventilated-post, (plain-post, (other-states, (no-band-between, (limit-back, tt))))))))))))))))

@@ -1,7 +1,7 @@
 -- The ranges of refusal 1 are kept by every accepted call.
-use mathlib.Core.Path.{_≡_, refl, sym, _∙_, ap}
+use mathlib.Core.Path.{_≡_, refl}
 use mathlib.Core.Bool.{Bool, true, false, _&&_, _||_, not, cond}
-use Prim.Native.Nat.{ℕ, _+_, _≤_}
+use Prim.Native.Nat.{ℕ, _≤_}
 use native.Mathlib.Nat.{le-refl}
 use native.Mathlib.Omega.{arith}
 use lib.Dec.{eqb, leb}
@@ -9,18 +9,16 @@ use borrow.Author.Tests.{leb-true, le-leb}
 use Rattle.units.specs.Wave.{driven}
 use Rattle.units.proofs.LevelOrder.{and-parts}
 use Rattle.window.specs.Weighing.{Weighs}
-use Rattle.rules.specs.Accepted.{pairAt, unsettlesAt, opensAt, afterEvent, afterLatch, afterWave, accept}
-use Rattle.rules.specs.Begin.{Begin, ratedAllowed, pauseAllowed, pauseFor, beginRefusal, fresh}
+use Rattle.rules.specs.Accepted.{pairAt, opensAt, afterLatch, afterWave, accept}
+use Rattle.rules.specs.Begin.{ratedAllowed, pauseAllowed}
 use Rattle.rules.specs.Calls.{Event, sample, limit, measure, fault, clear, tick, Heard}
 use Rattle.rules.specs.Lent.{waveAllowed, storedAllowed, timesAllowed, inRange}
-use Rattle.rules.specs.Pairs.{Pair}
 use Rattle.rules.specs.Refusals.{limitAllowed, argumentRefusal}
 use Rattle.rules.specs.Replay.{isAccepted}
 use Rattle.rules.specs.State.{State, Moment, empty, setTo, startedBy}
 use Rattle.rules.specs.Step1Event.{isOver, announced, soundBy, limitBy, overrunAt, overrunBy}
 use Rattle.rules.specs.Step3Wave.{steadyHigh, waveFor, overrunUnder, stopUnder}
-use Rattle.rules.proofs.Acceptance.{arguments-right, on-time, begins}
-use Rattle.rules.proofs.Booleans.{clash}
+use Rattle.rules.proofs.Acceptance.{arguments-right, on-time}
 use Rattle.rules.proofs.Waves.{wave-allowed}
 
 -- the ranges, one by one

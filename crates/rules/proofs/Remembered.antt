@@ -4,8 +4,7 @@ use mathlib.Core.Bool.{Bool, true, false}
 use Prim.Native.Nat.{ℕ, zero, suc, _≤_, _<_}
 use native.Mathlib.Decide.{decLt}
 use native.Mathlib.Omega.{arith}
-use Rattle.rules.specs.Claim.{Trace, Accepted, Closing, Opening, Successive, Proves}
-use Rattle.rules.specs.State.{Previous}
+use Rattle.rules.specs.Claim.{Trace, Closing, Successive, Proves}
 use Rattle.rules.proofs.Booleans.{clash}
 use Rattle.rules.proofs.Lawful.{Kept, Lawful, Law, Meets, Outcome, refused, stays, shuts, opens, outcome}
 

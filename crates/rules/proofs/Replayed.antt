@@ -2,22 +2,22 @@
 use mathlib.Core.Path.{_≡_, refl, sym, _∙_, ap}
 use mathlib.Core.Bool.{Bool, true, false, _&&_, _||_, not, cond}
 use mathlib.Core.List.{List, [], _∷_}
-use Prim.Native.Nat.{ℕ, zero, suc, _+_, _≤_, _<_}
+use Prim.Native.Nat.{ℕ, zero, suc, _≤_, _<_}
 use native.Mathlib.Nat.{not-suc-le-zero, le-of-suc-le-suc}
 use native.Mathlib.Omega.{arith}
 use lib.ListN.{length, getD, take}
 use Rattle.rules.specs.Accepted.{causeAt, closesAt, accept}
 use Rattle.rules.specs.Begin.{Begin, pauseFor, beginRefusal, fresh}
 use Rattle.rules.specs.Calls.{Call, Heard, heard}
-use Rattle.rules.specs.Claim.{Trace, Demand3}
+use Rattle.rules.specs.Claim.{Demand3}
 use Rattle.rules.specs.Replay.{isAccepted, step, after, replay}
-use Rattle.rules.specs.State.{State, Settings, Moment, setTo}
+use Rattle.rules.specs.State.{State, setTo}
 use Rattle.rules.specs.Step5Closing.{closingsBy}
 use Rattle.rules.specs.Traces.{noCall, before, callAt, traceOf}
 use Rattle.rules.proofs.Acceptance.{on-time, begins, pause-least}
 use Rattle.rules.proofs.Demand3.{demand3-of}
 use Rattle.rules.proofs.Lawful.{Kept, Meets, Law, Lawful}
-use Rattle.rules.proofs.OneCall.{closed-next, opening-next, previous-opened, previous-sample, previous-other, ProvenPair, MeetsAll, meets-all}
+use Rattle.rules.proofs.OneCall.{closed-next, opening-next, previous-opened, previous-sample, previous-other, meets-all}
 
 -- one call: refused, nothing changes; accepted, it goes through the steps
 module _ (s : State) (call : Heard) where

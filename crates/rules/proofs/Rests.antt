@@ -1,15 +1,15 @@
 -- Between two closings lies an opening, before both samples of the later one, and the pause before it.
-use mathlib.Core.Path.{_≡_, refl, sym, _∙_, ap}
-use mathlib.Core.Bool.{Bool, true, false}
+use mathlib.Core.Path.{_≡_, _∙_, ap}
+use mathlib.Core.Bool.{true, false}
 use mathlib.Core.Logic.{_⊎_, inl, inr}
 use Prim.Native.Nat.{ℕ, zero, suc, _+_, _≤_, _<_}
 use native.Mathlib.Decide.{decLt}
 use native.Mathlib.Nat.{not-suc-le-zero}
 use native.Mathlib.Omega.{arith}
-use Rattle.rules.specs.Claim.{Trace, Closing, Opening, Successive, Proves, Rested}
-use Rattle.rules.specs.State.{Moment, setTo}
+use Rattle.rules.specs.Claim.{Trace, Closing, Proves, Rested}
+use Rattle.rules.specs.State.{setTo}
 use Rattle.rules.proofs.Booleans.{clash}
-use Rattle.rules.proofs.Lawful.{Kept, Lawful, Law, Meets, Outcome, refused, stays, shuts, opens, outcome}
+use Rattle.rules.proofs.Lawful.{Kept, Lawful, Outcome, refused, stays, shuts, opens, outcome}
 use Rattle.rules.proofs.Remembered.{Remembered, closing-meets, partner, only-one}
 
 module _ (t : Trace) (kept : Kept) (laws : Lawful t kept) where

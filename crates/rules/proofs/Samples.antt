@@ -1,16 +1,16 @@
 -- Which bands a sound sample can have, and that a proven sample is sound and in a ready band.
-use mathlib.Core.Path.{_≡_, refl, sym, _∙_, ap}
+use mathlib.Core.Path.{_≡_, refl, sym}
 use mathlib.Core.Bool.{Bool, true, false, _&&_, _||_, not, cond}
 use Prim.Native.Nat.{ℕ, _≤_, _<_}
 use native.Mathlib.Omega.{arith}
-use lib.Dec.{eqb, leb, ltb}
+use lib.Dec.{eqb}
 use lib.IntN.{ℤ, pos, negsuc, negℤ}
 use lib.Signed.{leZ, ltZ}
 use borrow.Author.Tests.{leb-true, ltb-true, lt-leb, lt-ltb, eqb-true}
 use Rattle.units.specs.Range.{within, strictlyBetween}
 use Rattle.units.specs.Wave.{driven}
 use Rattle.units.proofs.LevelOrder.{both-ways, and-parts, within-parts}
-use Rattle.pilot.specs.Bands.{bandC, bandD, noBand, inA, inB, inC, inD, inE, inLowBand, bandOf, ready}
+use Rattle.pilot.specs.Bands.{bandC, bandD, noBand, inC, inD, inE, inLowBand, bandOf, ready}
 use Rattle.pilot.specs.Verdicts.{sound, proven, verdictOf}
 use Rattle.pilot.proofs.Laws.{bands-are}
 use Rattle.window.specs.Weighing.{Weighs, levels, refused}

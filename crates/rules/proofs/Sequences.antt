@@ -1,13 +1,10 @@
 -- How a sequence is computed: a square window is weighed once and for all (Squares), and the calls then go by levels.
-use mathlib.Core.Path.{_≡_, refl, sym, _∙_, ap}
-use mathlib.Core.Bool.{Bool, true, false, _&&_}
+use mathlib.Core.Path.{_≡_, refl, _∙_, ap}
+use mathlib.Core.Bool.{Bool, true, _&&_}
 use mathlib.Core.List.{List, [], _∷_, _++_, map}
 use Prim.Native.Nat.{ℕ, zero, suc, _+_, _*_, _≤_, _<_}
 use native.Mathlib.Omega.{arith}
-use lib.Dec.{leb, ltb}
-use lib.IntN.{ℤ, pos, negℤ}
 use lib.Signed.{leZ}
-use borrow.Author.Tests.{lt-leb, le-leb, le-ltb}
 use Rattle.units.specs.Range.{within, strictlyBetween, fromTo}
 use Rattle.units.specs.Wave.{driven}
 use Rattle.units.proofs.LevelOrder.{and-parts}
@@ -16,7 +13,7 @@ use Rattle.pilot.specs.Verdicts.{sound, proven, diodeBad, verdictOf}
 use Rattle.duty.specs.DutyFor.{atMost, allowed, orRefusal, dutyFor}
 use Rattle.duty.specs.GreatestBelow.{orElse, greatestBelow}
 use Rattle.duty.specs.Reading.{readingOf}
-use Rattle.window.specs.Weighing.{Weighs, levels, readingAllowed, weighing}
+use Rattle.window.specs.Weighing.{Weighs, levels, readingAllowed}
 use Rattle.rules.specs.Answer.{begun, next, replyTo, lentAfter}
 use Rattle.rules.specs.Begin.{ratedAllowed, pauseAllowed, pauseFor, fresh}
 use Rattle.rules.specs.Calls.{Event, Heard, sample, limit, measure, fault, clear, tick, weighed, heard}
@@ -24,9 +21,9 @@ use Rattle.rules.specs.Lent.{Lent, waveAllowed, storedAllowed, timesAllo
 use Rattle.rules.specs.Pairs.{verdict, paired, sameBand, inOneBand, bothProven, bothDiodeBad, bothUnsound}
 use Rattle.rules.specs.Refusals.{timeRefusal, kindAllowed, limitAllowed, measureAllowed, argumentRefusal}
 use Rattle.rules.specs.Reply.{Reply, letter, digit, faultShown}
-use Rattle.rules.specs.Sequences.{Levels, Brief, Entry, Sequence, Tells, AllTell, callOf, repliesTo, brief, every}
+use Rattle.rules.specs.Sequences.{Levels, Brief, Entry, Sequence, Tells, callOf, repliesTo, brief, every}
 use Rattle.rules.specs.State.{anyFault}
-use Rattle.rules.specs.Step1Event.{settledBy, soundBy, limitBy, withKind, faultsBy, told, announced, isOver, overrunAt, overrunBy}
+use Rattle.rules.specs.Step1Event.{settledBy, soundBy, limitBy, withKind, faultsBy, currentOf, announced, isOver, overrunAt, overrunBy}
 use Rattle.rules.specs.Step2Latches.{ranFor, overCurrent, unsettles, latched}
 use Rattle.rules.specs.Step3Wave.{isLetter, isUAE, unventilatedD, available, heldHigh, sent, waveFor, overrunUnder, stopUnder}
 use Rattle.rules.specs.Step4Opening.{cause1, cause2, cause3, cause4, cause5, cause, opens}
@@ -106,7 +103,7 @@ tells-by sequence lent right rights comes answers =
 
 -- a call computed on levels: what unfolds this unfolds every definition that a call goes through
 unfoldable pub computed : Lent → List Brief → Lent
-unfolding within strictlyBetween fromTo driven bandOf ready isBCD sound proven diodeBad verdictOf atMost allowed orRefusal dutyFor orElse greatestBelow readingOf next ratedAllowed pauseAllowed pauseFor fresh waveAllowed storedAllowed timesAllowed inRange altered lentRefusal verdict paired sameBand inOneBand bothProven bothDiodeBad bothUnsound timeRefusal kindAllowed limitAllowed measureAllowed argumentRefusal letter digit faultShown anyFault settledBy soundBy limitBy withKind faultsBy told announced isOver overrunAt overrunBy ranFor overCurrent unsettles latched isLetter isUAE unventilatedD available heldHigh sent waveFor overrunUnder stopUnder cause1 cause2 cause3 cause4 cause5 cause opens rested closes closingsBy
+unfolding within strictlyBetween fromTo driven bandOf ready isBCD sound proven diodeBad verdictOf atMost allowed orRefusal dutyFor orElse greatestBelow readingOf next ratedAllowed pauseAllowed pauseFor fresh waveAllowed storedAllowed timesAllowed inRange altered lentRefusal verdict paired sameBand inOneBand bothProven bothDiodeBad bothUnsound timeRefusal kindAllowed limitAllowed measureAllowed argumentRefusal letter digit faultShown anyFault settledBy soundBy limitBy withKind faultsBy currentOf announced isOver overrunAt overrunBy ranFor overCurrent unsettles latched isLetter isUAE unventilatedD available heldHigh sent waveFor overrunUnder stopUnder cause1 cause2 cause3 cause4 cause5 cause opens rested closes closingsBy
 computed lent briefs = lentOn lent briefs
 
 lent-append : (lent : Lent) (first rest : List Brief) → lentOn lent (first ++ rest) ≡ lentOn (lentOn lent first) rest

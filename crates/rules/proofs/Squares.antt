@@ -1,16 +1,16 @@
 -- A square window of 256 readings weighs to its two levels.
 use mathlib.Core.Path.{_≡_, refl, sym, _∙_, ap}
-use mathlib.Core.Bool.{Bool, true, false, _&&_, not, cond}
+use mathlib.Core.Bool.{Bool, true, false, cond}
 use mathlib.Core.List.{List, [], _∷_, _++_, append-nil}
-use Prim.Native.Nat.{ℕ, zero, suc, _+_, _≤_}
-use native.Mathlib.Nat.{zero-add, suc-add, le-refl}
+use Prim.Native.Nat.{ℕ, zero, suc, _≤_}
+use native.Mathlib.Nat.{le-refl}
 use native.Mathlib.Omega.{arith}
 use lib.Dec.{leb}
-use lib.IntN.{ℤ, pos, negsuc, natAbs, _-ℤ_, +ℤ-invr}
-use lib.ListN.{length, replicate}
+use lib.IntN.{ℤ, pos, negsuc, natAbs, +ℤ-invr}
+use lib.ListN.{replicate}
 use lib.Signed.{leZ}
 use borrow.Author.Tests.{leb-true, le-leb}
-use Rattle.units.specs.Range.{within, fromTo, higher, lower}
+use Rattle.units.specs.Range.{fromTo, higher, lower}
 use Rattle.units.proofs.LevelOrder.{le-itself}
 use Rattle.window.specs.Support.{near, supporters, needed, supported}
 use Rattle.window.specs.Weighing.{levels, lengthAllowed, readingAllowed, allAllowed, select, extreme, greatest, least, levelsOf, supportedLevels, weighing}

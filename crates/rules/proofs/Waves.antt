@@ -1,15 +1,13 @@
 -- What the wave of step 3 is: 0, 1000 or a driven one, and what a driven one tells.
-use mathlib.Core.Path.{_≡_, refl, sym, _∙_, ap}
-use mathlib.Core.Bool.{Bool, true, false, _&&_, _||_, not, cond}
-use mathlib.Core.Logic.{_↔_}
-use Prim.Native.Nat.{ℕ, _≤_, _<_}
-use native.Mathlib.Omega.{arith}
+use mathlib.Core.Path.{_≡_, refl}
+use mathlib.Core.Bool.{Bool, true, false, _||_, cond}
+use Prim.Native.Nat.{ℕ, _≤_}
 use lib.Dec.{eqb, ltb}
 use borrow.Author.Tests.{ltb-false}
 use Rattle.units.specs.Range.{fromTo}
 use Rattle.units.specs.Wave.{driven}
 use Rattle.units.proofs.FromTo.{inside}
-use Rattle.duty.specs.DutyFor.{dutyFor, duty, IsGreatest}
+use Rattle.duty.specs.DutyFor.{dutyFor}
 use Rattle.duty.proofs.Laws.{greatest}
 use Rattle.rules.specs.Lent.{waveAllowed}
 use Rattle.rules.specs.State.{State, anyFault}

@@ -8,7 +8,7 @@ use Rattle.rules.specs.Step2Latches.{unsettles, stepLatch}
 use Rattle.rules.specs.Step3Wave.{stepWave}
 use Rattle.rules.specs.Step4Opening.{cause, opens, stepOpening}
 use Rattle.rules.specs.Step5Closing.{closes, stepClosing}
-use Rattle.rules.specs.State.{State, Previous}
+use Rattle.rules.specs.State.{State}
 
 -- at the end the call's time is kept, and a sample becomes the previous one unless its call forgot the previous sample
 abbrev pub stepEnd : Bool → ℕ → Pair → State → State

@@ -1,7 +1,6 @@
 -- What a call answers to any lent controller: the controller after it, and the reply.
-use mathlib.Core.Bool.{Bool, cond}
+use mathlib.Core.Bool.{cond}
 use mathlib.Core.List.{List, [], _∷_}
-use Prim.Native.Nat.{ℕ}
 use lib.Dec.{eqb}
 use Rattle.rules.specs.Accepted.{accept, closesAt}
 use Rattle.rules.specs.Begin.{Begin, fresh}

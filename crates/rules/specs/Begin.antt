@@ -1,5 +1,5 @@
 -- Begin (document 01, "The calls"): its values, its refusals and the fresh controller.
-use mathlib.Core.Bool.{Bool, false, _&&_, _||_, not, cond}
+use mathlib.Core.Bool.{Bool, false, _&&_, _||_, cond}
 use Prim.Native.Nat.{ℕ}
 use lib.Dec.{eqb, ltb}
 use Rattle.units.specs.Range.{fromTo}

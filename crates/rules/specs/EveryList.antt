@@ -1,6 +1,6 @@
 -- What holds of every list of calls after an accepted begin: refused calls anywhere in it, and any clock. Proved in proofs/EveryList.antt.
 use mathlib.Core.Path.{_≡_}
-use mathlib.Core.Bool.{Bool, true, false}
+use mathlib.Core.Bool.{true, false}
 use mathlib.Core.List.{List}
 use mathlib.Core.Logic.{_↔_, _⊎_}
 use Prim.Native.Nat.{ℕ, suc, _+_, _≤_, _<_}

@@ -28,6 +28,7 @@ overRunEnds =
       entries =
           call 5119 tick 0 bandC 2 960 true 0 1
           ∷ call 5120 tick 0 letterF 0 0 false 2 1
+          ∷ call 5130 clear 0 letterU 0 1000 false 0 1
           ∷ [];
     }
 
@@ -57,7 +58,7 @@ betweenBands =
           ∷ [];
     }
 
--- two diode-bad samples latch fault 1
+-- two diode-bad samples latch fault 1, and the second one is forgotten with the first
 abbrev pub noDiode : Sequence
 noDiode =
     record {
@@ -66,6 +67,9 @@ noDiode =
       entries =
           call 50 (steady 6000) 0 bandC 2 960 true 0 1
           ∷ call 60 (steady 6000) 0 letterF 0 0 false 1 1
+          ∷ call 70 clear 0 letterU 0 1000 false 0 1
+          ∷ call 80 (steady 6000) 0 letterU 0 1000 false 0 1
+          ∷ call 90 (steady 6000) 0 bandC 2 960 false 0 1
           ∷ [];
     }
 
@@ -80,6 +84,20 @@ diodeBefore =
           ∷ call 121 tick 0 bandC 2 960 false 0 1
           ∷ call 130 (steady 6000) 0 bandC 2 960 false 0 1
           ∷ call 140 (steady 6000) 0 letterF 0 0 false 1 1
+          ∷ [];
+    }
+
+-- before a limit is told there is no duty; begin tells the time of the last accepted call
+abbrev pub noLimit : Sequence
+noLimit =
+    record {
+      begin = at80A 4900;
+      first = [];
+      entries =
+          call 4899 tick 2 letterU 0 1000 false 0 0
+          ∷ call 4900 (steady 9000) 0 letterU 0 1000 false 0 0
+          ∷ call 4910 (steady 9000) 0 bandB 1 1000 false 0 0
+          ∷ call 4920 (limit 80000) 0 bandB 2 960 false 0 0
           ∷ [];
     }
 
@@ -165,16 +183,16 @@ ventilatedPost =
       begin = aired;
       first = [];
       entries =
-          call 0 (limit 16000) 0 letterU 0 1000 false 0 0
+          call 0 (limit 80000) 0 letterU 0 1000 false 0 0
           ∷ call 10 (steady 3000) 0 letterU 0 1000 false 0 0
-          ∷ call 20 (steady 3000) 0 bandD 2 266 false 0 0
-          ∷ call 30 (swing 3000) 0 bandD 2 266 false 0 0
-          ∷ call 40 (swing 3000) 0 bandD 2 266 true 0 1
-          ∷ call 50 (swing 9000) 0 bandD 2 266 true 0 1
-          ∷ call 60 (swing 9000) 0 bandB 2 266 false 0 1
-          ∷ call 1050 (swing 6000) 0 bandB 2 266 false 0 1
-          ∷ call 1059 (swing 6000) 0 bandC 2 266 false 0 1
-          ∷ call 1060 (swing 6000) 0 bandC 2 266 true 0 2
+          ∷ call 20 (steady 3000) 0 bandD 2 960 false 0 0
+          ∷ call 30 (swing 3000) 0 bandD 2 960 false 0 0
+          ∷ call 40 (swing 3000) 0 bandD 2 960 true 0 1
+          ∷ call 50 (swing 9000) 0 bandD 2 960 true 0 1
+          ∷ call 60 (swing 9000) 0 bandB 2 960 false 0 1
+          ∷ call 1050 (swing 6000) 0 bandB 2 960 false 0 1
+          ∷ call 1059 (swing 6000) 0 bandC 2 960 false 0 1
+          ∷ call 1060 (swing 6000) 0 bandC 2 960 true 0 2
           ∷ [];
     }
 
@@ -248,6 +266,7 @@ otherRows =
     ∷ betweenBands
     ∷ noDiode
     ∷ diodeBefore
+    ∷ noLimit
     ∷ clock
     ∷ refusedArguments
     ∷ faultsTold

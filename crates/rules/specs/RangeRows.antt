@@ -3,10 +3,10 @@ use mathlib.Core.Path.{_≡_}
 use mathlib.Core.Bool.{false}
 use mathlib.Core.List.{List, [], _∷_, map}
 use Prim.Native.Nat.{ℕ}
-use Rattle.rules.specs.Begin.{Begin, beginRefusal}
+use Rattle.rules.specs.Begin.{beginRefusal}
 use Rattle.rules.specs.Calls.{limit}
 use Rattle.rules.specs.Lent.{Lent, lentRefusal}
-use Rattle.rules.specs.State.{Moment, State, noFaults, empty, setTo, forgotten}
+use Rattle.rules.specs.State.{Moment, noFaults, empty, setTo, forgotten}
 
 -- begin's time, rated current and pause, and the refusal
 pub record BeginRow : Type 0 where

@@ -7,7 +7,7 @@ use lib.IntN.{ℤ, pos, negℤ}
 use lib.ListN.{replicate}
 use Rattle.rules.specs.Answer.{begun, next, replyTo, lentAfter}
 use Rattle.rules.specs.Begin.{Begin}
-use Rattle.rules.specs.Calls.{Event, Call, sample, limit, measure, fault, clear, tick, Heard, heard}
+use Rattle.rules.specs.Calls.{Event, Call, sample, limit, measure, fault, clear, tick, heard}
 use Rattle.rules.specs.Lent.{Lent}
 use Rattle.rules.specs.Reply.{Reply}
 

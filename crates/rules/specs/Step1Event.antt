@@ -47,15 +47,15 @@ faultsBy clear faults = noFaults
 faultsBy tick faults = faults
 
 -- the current that a reading tells; 0 where it tells none
-unfoldable pub told : Reads → ℕ
-told noCharging = 0
-told digitalOnly = 0
-told (current milliamps) = milliamps
-told (refused number) = 0
+unfoldable pub currentOf : Reads → ℕ
+currentOf noCharging = 0
+currentOf digitalOnly = 0
+currentOf (current milliamps) = milliamps
+currentOf (refused number) = 0
 
 -- the current that the van may draw by the wave: what an over-run is judged against
 unfoldable pub announced : State → ℕ
-announced s = told (readingOf (s .wave))
+announced s = currentOf (readingOf (s .wave))
 
 -- more than a tenth above what is announced
 unfoldable pub isOver : ℕ → ℕ → Bool

@@ -5,7 +5,7 @@ use lib.Dec.{ltb}
 use Rattle.rules.specs.Pairs.{Pair, bothUnsound}
 use Rattle.rules.specs.Step2Latches.{ranFor}
 use Rattle.rules.specs.Step3Wave.{unventilatedD}
-use Rattle.rules.specs.State.{State, Moment, anyFault, empty, setTo, forgotten}
+use Rattle.rules.specs.State.{State, anyFault, empty, setTo, forgotten}
 
 -- (i) this and the previous sample both unsound
 unfoldable pub cause1 : Pair → Bool

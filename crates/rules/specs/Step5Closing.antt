@@ -4,7 +4,7 @@ use Prim.Native.Nat.{ℕ, suc, _+_}
 use lib.Dec.{leb}
 use Rattle.units.specs.Wave.{driven}
 use Rattle.rules.specs.Pairs.{Pair, bothProven}
-use Rattle.rules.specs.State.{State, Moment}
+use Rattle.rules.specs.State.{State}
 
 -- never opened, or the last opening at least the pause ago
 unfoldable pub rested : ℕ → State → Bool

@@ -1,0 +1,74 @@
+-- The wave of an accepted call: 0 exactly with a fault, and driven only where a duty is offered.
+use mathlib.Core.Path.{_≡_, refl, sym, _∙_, ap}
+use mathlib.Core.Bool.{Bool, true, false, _&&_, _||_, not}
+use mathlib.Core.Logic.{_↔_, _⊎_, inl, inr}
+use Prim.Native.Nat.{ℕ}
+use native.Mathlib.Omega.{arith}
+use lib.Dec.{eqb, leb}
+use borrow.Author.Tests.{leb-true, eqb-true, eqb-false}
+use Rattle.units.specs.Range.{fromTo}
+use Rattle.units.specs.Wave.{driven}
+use Rattle.pilot.specs.Bands.{bandA, bandB, bandC, bandD, bandE, ready}
+use Rattle.rules.specs.Accepted.{afterLatch, accept}
+use Rattle.rules.specs.Calls.{fault, Heard}
+use Rattle.rules.specs.State.{State, anyFault}
+use Rattle.rules.specs.Step3Wave.{steadyLow, isLetter, isUAE}
+use Rattle.rules.proofs.Booleans.{clash}
+use Rattle.rules.proofs.Waves.{Offers, WaveIs, low, high, square, wave-is}
+
+-- the settled states for which a duty is sent
+pub offered : (settled : ℕ) (ventilation : Bool) → isUAE settled ≡ false → eqb settled bandD && not ventilation ≡ false
+    → (settled ≡ bandB) ⊎ (ready settled ventilation ≡ true)
+unfolding isUAE isLetter fromTo ready
+offered settled ventilation state plain =
+    go (eqb settled bandB) (eqb settled bandC) (eqb settled bandD) ventilation refl refl refl plain
+  where
+    letters : (l h a e : Bool) → not (l && h) || (a || e) ≡ false → ((l ≡ true) × (h ≡ true)) × ((a ≡ false) × (e ≡ false))
+    letters true true false false f = ((refl, refl), (refl, refl))
+    letters true true false true f = clash refl f
+    letters true true true e f = clash refl f
+    letters true false a e f = clash refl f
+    letters false h a e f = clash refl f
+
+    go : (b c d v : Bool) → eqb settled bandB ≡ b → eqb settled bandC ≡ c → eqb settled bandD ≡ d → d && not v ≡ false
+        → (settled ≡ bandB) ⊎ (c || (d && v) ≡ true)
+    go true c d v p q r f = inl (eqb-true settled bandB p)
+    go false true d v p q r f = inr refl
+    go false false true true p q r f = inr refl
+    go false false true false p q r f = clash refl f
+    go false false false v p q r f =
+        let known = letters (leb bandA settled) (leb settled bandE) (eqb settled bandA) (eqb settled bandE) state in
+        let least = leb-true bandA settled (known .0 .0) in
+        let most = leb-true settled bandE (known .0 .1) in
+        let notA = eqb-false settled bandA (known .1 .0) in
+        let notE = eqb-false settled bandE (known .1 .1) in
+        let notB = eqb-false settled bandB p in
+        let notC = eqb-false settled bandC q in
+        let notD = eqb-false settled bandD r in
+        absurd (omega arith)
+
+-- the wave of an accepted call, and what it tells
+module _ (s : State) (call : Heard) where
+  pub wave-low-exactly : (accept s call .wave ≡ steadyLow) ↔ (anyFault (accept s call .faults) ≡ true)
+  unfolding driven fromTo
+  wave-low-exactly = (λ is. to (wave-is (afterLatch s call)) is, λ fault. from (wave-is (afterLatch s call)) fault)
+    where
+      to : WaveIs (afterLatch s call) (accept s call .wave) → accept s call .wave ≡ steadyLow → anyFault (accept s call .faults) ≡ true
+      to (low is has) e = has
+      to (high is none) e = let zero : 1000 ≡ steadyLow = sym is ∙ e in absurd (omega arith)
+      to (square is none offer) e = clash (ap driven (sym e) ∙ is) refl
+
+      from : WaveIs (afterLatch s call) (accept s call .wave) → anyFault (accept s call .faults) ≡ true → accept s call .wave ≡ steadyLow
+      from (low is has) e = is
+      from (high is none) e = clash e none
+      from (square is none offer) e = clash e none
+
+  pub driven-offers : driven (accept s call .wave) ≡ true → (anyFault (accept s call .faults) ≡ false) × Offers (afterLatch s call)
+  unfolding driven fromTo
+  driven-offers e = go (wave-is (afterLatch s call)) e
+    where
+      go : WaveIs (afterLatch s call) (accept s call .wave) → driven (accept s call .wave) ≡ true
+          → (anyFault (accept s call .faults) ≡ false) × Offers (afterLatch s call)
+      go (low is has) f = clash f (ap driven is)
+      go (high is none) f = clash f (ap driven is)
+      go (square is none offer) f = (none, offer)

@@ -1,0 +1,77 @@
+-- An open contactor has no over-run and no stop, and an over-run has a driven wave.
+use mathlib.Core.Path.{_≡_, refl, sym, _∙_, ap}
+use mathlib.Core.Bool.{Bool, true, false, _&&_, _||_, not, cond}
+use Prim.Native.Nat.{ℕ}
+use Rattle.units.specs.Wave.{driven}
+use Rattle.window.specs.Weighing.{Weighs}
+use Rattle.rules.specs.Accepted.{opensAt, closesAt, afterLatch, afterWave, accept}
+use Rattle.rules.specs.Calls.{Event, sample, limit, measure, fault, clear, tick, Heard}
+use Rattle.rules.specs.State.{State, Moment, empty}
+use Rattle.rules.specs.Step1Event.{overrunAt, overrunBy}
+use Rattle.rules.specs.Step3Wave.{waveFor, overrunUnder, stopUnder}
+use Rattle.rules.proofs.Booleans.{clash}
+
+-- while the contactor is open no over-run and no stop begins
+either-unset : (b : Bool) (m n : Moment) → m .set ≡ false → n .set ≡ false → cond b m n .set ≡ false
+either-unset true m n p q = p
+either-unset false m n p q = q
+
+module _ (s : State) (now : ℕ) (was : s .closed ≡ false) where
+  overrun-open : (event : Event Weighs) → overrunBy now event s ≡ s .overrun
+  unfolding overrunBy overrunAt
+  overrun-open (sample window) = refl
+  overrun-open (limit given) = refl
+  overrun-open (measure line) = rw was
+  overrun-open (fault kind) = refl
+  overrun-open clear = refl
+  overrun-open tick = refl
+
+  stop-open : (wave : ℕ) → s .stop .set ≡ false → stopUnder now wave (s .closed) (s .stop) .set ≡ false
+  unfolding stopUnder
+  stop-open wave none = rw was (either-unset (driven wave) empty (s .stop) refl none)
+
+-- an open contactor was opened by this call, or was open before it
+module _ (s : State) (call : Heard) where
+  data StaysOpen : Type 0 where
+    by-call : opensAt s call ≡ true → StaysOpen
+    from-before : opensAt s call ≡ false → s .closed ≡ false → StaysOpen
+
+  stays-open : accept s call .closed ≡ false → StaysOpen
+  stays-open e = go (s .closed) (opensAt s call) (closesAt s call) refl refl e
+    where
+      go : (c o m : Bool) → s .closed ≡ c → opensAt s call ≡ o → (c && not o) || m ≡ false → StaysOpen
+      go c true m p q f = by-call q
+      go false false m p q f = from-before q p
+      go true false m p q f = clash refl f
+
+  ends-overrun : (wave : ℕ) (m : Moment) → m .set ≡ false → overrunUnder wave m .set ≡ false
+  unfolding overrunUnder
+  ends-overrun wave m none = either-unset (driven wave) m empty none refl
+
+  pub no-overrun : (s .closed ≡ false → s .overrun .set ≡ false) → accept s call .closed ≡ false → accept s call .overrun .set ≡ false
+  no-overrun before e = go (stays-open e)
+    where
+      go : StaysOpen → accept s call .overrun .set ≡ false
+      go (by-call o) = ap (λ b. cond b empty (afterWave s call .overrun) .set) o
+      go (from-before o c) =
+          either-unset (opensAt s call) empty (afterWave s call .overrun) refl
+          (ends-overrun (waveFor (afterLatch s call)) (overrunBy (call .time) (call .event) s)
+          (ap (λ m. m .set) (overrun-open s (call .time) c (call .event)) ∙ before c))
+
+  pub no-stop : (s .closed ≡ false → s .stop .set ≡ false) → accept s call .closed ≡ false → accept s call .stop .set ≡ false
+  no-stop before e = go (stays-open e)
+    where
+      go : StaysOpen → accept s call .stop .set ≡ false
+      go (by-call o) = ap (λ b. cond b empty (afterWave s call .stop) .set) o
+      go (from-before o c) =
+          either-unset (opensAt s call) empty (afterWave s call .stop) refl (stop-open s (call .time) c (waveFor (afterLatch s call)) (before c))
+
+  pub runs-driven : accept s call .overrun .set ≡ true → driven (accept s call .wave) ≡ true
+  unfolding overrunUnder
+  runs-driven e = go (opensAt s call) (driven (accept s call .wave)) refl e
+    where
+      go : (o d : Bool) → driven (accept s call .wave) ≡ d
+          → cond o empty (cond d (overrunBy (call .time) (call .event) s) empty) .set ≡ true → driven (accept s call .wave) ≡ true
+      go true d p f = clash refl (sym f)
+      go false true p f = p
+      go false false p f = clash refl (sym f)
