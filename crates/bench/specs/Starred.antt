@@ -8,6 +8,8 @@ use Rattle.duty.specs.DutyFor.{Sends, duty, refusal, dutyFor}
 use Rattle.duty.specs.Reading.{Reads, current, readingOf}
 use Rattle.pilot.specs.Bands.{bandC, noBand, bandOf}
 use Rattle.pilot.specs.Verdicts.{sound}
+use Rattle.rules.specs.BenchRows.{firstCharge}
+use Rattle.rules.specs.Sequences.{Sequence, Tells}
 
 -- a row of the bench figures
 pub data Row : Type 0 where
@@ -19,12 +21,15 @@ pub data Row : Type 0 where
   hasBand : ℤ → ℕ → Row
   -- a high level that makes a sample unsound, whatever the wave and the low level
   unsound : ℤ → Row
+  -- begin, calls with windows of 256 readings, and the replies to them
+  tells : Sequence → Row
 
 abbrev pub Holds : Row → Type 0
 Holds (gives available sent) = dutyFor available ≡ sent
 Holds (reads d reading) = readingOf d ≡ reading
 Holds (hasBand high band) = bandOf high ≡ band
 Holds (unsound high) = (wave : ℕ) (low : ℤ) → sound wave high low ≡ false
+Holds (tells sequence) = Tells sequence
 
 abbrev pub AllHold : List Row → Type 0
 AllHold [] = Unit {0}
@@ -44,4 +49,5 @@ starred =
     ∷ hasBand (pos 7001) noBand
     ∷ unsound (pos 7500)
     ∷ unsound (pos 1500)
+    ∷ tells firstCharge
     ∷ []

@@ -64,7 +64,8 @@ holds overrun t within stored young =
       le-ltb (t + 80 + 80) (t + 80) (omega arith),
     )
 
-first-charge : Tells firstCharge
+-- starred
+pub first-charge : Tells firstCharge
 unfolding computed
 first-charge = tells-by firstCharge (begun (at32A 0)) refl refl refl refl
 
