@@ -7,7 +7,7 @@ use native.Mathlib.Omega.{arith}
 use lib.Dec.{leb}
 use borrow.Author.Tests.{lt-leb, le-leb, le-ltb}
 use Rattle.pilot.specs.Bands.{bandC}
-use Rattle.rules.specs.Answer.{begun, next}
+use Rattle.rules.specs.Answer.{next}
 use Rattle.rules.specs.BenchRows.{firstCharge, unsoundTwice, secondCharge, limitWithdrawn, overRun, noOverRun, benchRows}
 use Rattle.rules.specs.Lent.{Lent}
 use Rattle.rules.specs.Calls.{measure}
@@ -67,7 +67,7 @@ holds overrun t within stored young =
 -- starred
 pub first-charge : Tells firstCharge
 unfolding computed
-first-charge = tells-by firstCharge (begun (at32A 0)) refl refl refl refl
+first-charge = tells-by firstCharge (at32A 0) refl refl refl refl
 
 unsound-twice : Tells unsoundTwice
 unfolding computed
@@ -77,7 +77,7 @@ second-charge : Tells secondCharge
 unfolding computed
 second-charge =
     tells-by secondCharge (sampling false (setTo 60) empty 3040) refl refl
-    (lasting (sampling false (setTo 60) empty) 10 (swing 6000) 60 3060 waits (begun (at32A 0))
+    (lasting (sampling false (setTo 60) empty) 10 (swing 6000) 60 3060 waits (at32A 0)
     (charging 0 32000 ++ (brief 50 (swing 9000) ∷ brief 60 (swing 9000) ∷ brief 70 (swing 6000) ∷ brief 80 (swing 6000) ∷ []))
     296 80 refl (omega arith) (omega arith))
     refl
@@ -95,7 +95,7 @@ unfolding computed measured
 over-run =
     tells-by overRun (sampling true empty (setTo 100) 5070) refl refl
     (lasting (sampling true empty (setTo 100)) 80 (swing 6000) 100 5100
-    (λ t late early. holds (setTo 100) t (omega arith) (le-leb 100 t late) (lt-leb 5100 (t + 80) early)) (begun (at32A 0))
+    (λ t late early. holds (setTo 100) t (omega arith) (le-leb 100 t late) (lt-leb 5100 (t + 80) early)) (at32A 0)
     (measured 35179) 62 110 refl (omega arith) (omega arith))
     refl
 
@@ -104,7 +104,7 @@ unfolding computed measured
 no-over-run =
     tells-by noOverRun (sampling true empty empty 5070) refl refl
     (lasting (sampling true empty empty) 80 (swing 6000) 0 1000000000000
-    (λ t late early. holds empty t (omega arith) refl refl) (begun (at32A 0)) (measured 35178) 62 110 refl (omega arith) (omega arith))
+    (λ t late early. holds empty t (omega arith) refl refl) (at32A 0) (measured 35178) 62 110 refl (omega arith) (omega arith))
     refl
 
 pub bench-rows : AllTell benchRows

@@ -1,6 +1,6 @@
 -- The other sequences, computed.
 use mathlib.Core.Path.{refl}
-use Rattle.rules.specs.OtherRows.{limitRepeated, overRunEnds, overRunOpen, betweenBands, noDiode, diodeBefore, noLimit, clock, refusedArguments, faultsTold, faultAgain, ventilatedPost, plainPost, otherStates, noBandBetween, limitBack, otherRows}
+use Rattle.rules.specs.OtherRows.{limitRepeated, overRunEnds, overRunOpen, betweenBands, noDiode, diodeBefore, noLimit, clock, refusedArguments, faultsTold, faultAgain, ventilatedPost, plainPost, otherStates, noBandBetween, limitBack, noPartner, neverSound, noLetter, otherRows}
 use Rattle.rules.specs.Sequences.{Tells, AllTell}
 use Rattle.rules.proofs.Sequences.{tells-by, computed}
 
@@ -68,6 +68,18 @@ limit-back : Tells limitBack
 unfolding computed
 limit-back = tells-by limitBack _ refl refl refl refl
 
+no-partner : Tells noPartner
+unfolding computed
+no-partner = tells-by noPartner _ refl refl refl refl
+
+never-sound : Tells neverSound
+unfolding computed
+never-sound = tells-by neverSound _ refl refl refl refl
+
+no-letter : Tells noLetter
+unfolding computed
+no-letter = tells-by noLetter _ refl refl refl refl
+
 pub other-rows : AllTell otherRows
 other-rows =
-    (limit-repeated, (over-run-ends, (over-run-open, (between-bands, (no-diode, (diode-before, (no-limit, (clock-row, (refused-arguments, (faults-told, (fault-again, (ventilated-post, (plain-post, (other-states, (no-band-between, (limit-back, tt))))))))))))))))
+    (limit-repeated, (over-run-ends, (over-run-open, (between-bands, (no-diode, (diode-before, (no-limit, (clock-row, (refused-arguments, (faults-told, (fault-again, (ventilated-post, (plain-post, (other-states, (no-band-between, (limit-back, (no-partner, (never-sound, (no-letter, tt)))))))))))))))))))

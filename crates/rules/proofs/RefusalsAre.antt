@@ -1,4 +1,4 @@
--- Each refusal number comes for its condition, and for nothing else.
+-- When each refusal number comes, exactly.
 use mathlib.Core.Path.{_≡_, refl, sym, _∙_, ap}
 use mathlib.Core.Bool.{Bool, true, false, _&&_, cond}
 use mathlib.Core.List.{List, [], _∷_}

@@ -14,7 +14,7 @@ use Rattle.duty.specs.DutyFor.{atMost, allowed, orRefusal, dutyFor}
 use Rattle.duty.specs.GreatestBelow.{orElse, greatestBelow}
 use Rattle.duty.specs.Reading.{readingOf}
 use Rattle.window.specs.Weighing.{Weighs, levels, readingAllowed}
-use Rattle.rules.specs.Answer.{begun, next, replyTo, lentAfter}
+use Rattle.rules.specs.Answer.{next, replyTo, lentAfter}
 use Rattle.rules.specs.Begin.{ratedAllowed, pauseAllowed, pauseFor, fresh}
 use Rattle.rules.specs.Calls.{Event, Heard, sample, limit, measure, fault, clear, tick, weighed, heard}
 use Rattle.rules.specs.Lent.{Lent, waveAllowed, storedAllowed, timesAllowed, inRange, altered, lentRefusal}
@@ -94,10 +94,10 @@ replies-on lent (first ∷ rest) right =
     ∙ ap (λ h. replyTo lent h ∷ repliesOn (next lent h) (map (λ entry. entry .brief) rest)) same
 
 pub tells-by : (sequence : Sequence) (lent : Lent) → allSquare (sequence .first) ≡ true → allSquare (map (λ entry. entry .brief) (sequence .entries)) ≡ true
-    → lentOn (begun (sequence .begin)) (sequence .first) ≡ lent
+    → lentOn (sequence .start) (sequence .first) ≡ lent
     → repliesOn lent (map (λ entry. entry .brief) (sequence .entries)) ≡ map (λ entry. entry .reply) (sequence .entries) → Tells sequence
 tells-by sequence lent right rights comes answers =
-    ap (λ l. repliesTo l (map (λ entry. callOf (entry .brief)) (sequence .entries))) (lent-on (begun (sequence .begin)) (sequence .first) right ∙ comes)
+    ap (λ l. repliesTo l (map (λ entry. callOf (entry .brief)) (sequence .entries))) (lent-on (sequence .start) (sequence .first) right ∙ comes)
     ∙ replies-on lent (sequence .entries) rights
     ∙ answers
 

@@ -10,7 +10,7 @@ use Rattle.rules.specs.Step4Opening.{cause, opens, stepOpening}
 use Rattle.rules.specs.Step5Closing.{closes, stepClosing}
 use Rattle.rules.specs.State.{State}
 
--- at the end the call's time is kept, and a sample becomes the previous one unless its call forgot the previous sample
+-- the end of a call: its time stays, and so does its sample, unless the call forgot
 abbrev pub stepEnd : Bool → ℕ → Pair → State → State
 stepEnd forgot now pair s =
     record {

@@ -10,7 +10,7 @@ use Rattle.rules.specs.Sequences.{Sequence, steady, swing, brief, every,
 abbrev pub firstCharge : Sequence
 firstCharge =
     record {
-      begin = at32A 0;
+      start = at32A 0;
       first = [];
       entries =
           call 0 (limit 32000) 0 letterU 0 1000 false 0 0
@@ -28,7 +28,7 @@ firstCharge =
 abbrev pub unsoundTwice : Sequence
 unsoundTwice =
     record {
-      begin = at32A 0;
+      start = at32A 0;
       first = charging 0 32000;
       entries =
           call 50 (swing 9000) 0 bandC 2 533 true 0 1
@@ -40,7 +40,7 @@ unsoundTwice =
 abbrev pub secondCharge : Sequence
 secondCharge =
     record {
-      begin = at32A 0;
+      start = at32A 0;
       first = charging 0 32000 ++ (brief 50 (swing 9000) ∷ brief 60 (swing 9000) ∷ every 298 10 70 (swing 6000));
       entries =
           call 3050 (swing 6000) 0 bandC 2 533 false 0 1
@@ -52,7 +52,7 @@ secondCharge =
 abbrev pub limitWithdrawn : Sequence
 limitWithdrawn =
     record {
-      begin = at32A 4900;
+      start = at32A 4900;
       first = charging 4900 32000 ++ (every 5 10 4950 (swing 6000) ++ (brief 5000 (limit 0) ∷ every 298 10 5010 (steady 6000)));
       entries =
           call 7990 (steady 6000) 0 bandC 1 1000 true 0 1
@@ -64,7 +64,7 @@ limitWithdrawn =
 abbrev pub overRun : Sequence
 overRun =
     record {
-      begin = at32A 0;
+      start = at32A 0;
       first = charging 0 32000 ++ (brief 100 (measure 35179) ∷ brief 110 (swing 6000) ∷ every 62 80 190 (swing 6000));
       entries =
           call 5099 tick 0 bandC 2 533 true 0 1
@@ -76,7 +76,7 @@ overRun =
 abbrev pub noOverRun : Sequence
 noOverRun =
     record {
-      begin = at32A 0;
+      start = at32A 0;
       first = charging 0 32000 ++ (brief 100 (measure 35178) ∷ brief 110 (swing 6000) ∷ every 62 80 190 (swing 6000));
       entries =
           call 5099 tick 0 bandC 2 533 true 0 1

@@ -1,16 +1,19 @@
 -- More sequences: the faults seen in the field, and rules that no other theorem pins down. Proved in proofs/OtherRows.antt.
-use mathlib.Core.Bool.{true, false}
+use mathlib.Core.Bool.{Bool, true, false}
 use mathlib.Core.List.{List, [], _∷_, _++_}
+use Prim.Native.Nat.{ℕ}
 use Rattle.pilot.specs.Bands.{bandA, bandB, bandC, bandD, bandE}
 use Rattle.rules.specs.Calls.{limit, measure, fault, clear, tick}
+use Rattle.rules.specs.Lent.{Lent}
 use Rattle.rules.specs.Reply.{letterF, letterU}
 use Rattle.rules.specs.Sequences.{Sequence, steady, swing, brief, every, call, at32A, at80A, aired, charging}
+use Rattle.rules.specs.State.{Moment, Previous, Faults, noFaults, empty, forgotten}
 
 -- a limit of 0 that is repeated does not start the stop afresh
 abbrev pub limitRepeated : Sequence
 limitRepeated =
     record {
-      begin = at32A 4900;
+      start = at32A 4900;
       first = charging 4900 32000 ++ (brief 5000 (limit 0) ∷ (every 12 80 5020 (steady 6000) ++ (brief 5970 (limit 0) ∷ every 26 80 5980 (steady 6000))));
       entries =
           call 7999 tick 0 bandC 1 1000 true 0 1
@@ -22,7 +25,7 @@ limitRepeated =
 abbrev pub overRunEnds : Sequence
 overRunEnds =
     record {
-      begin = at80A 0;
+      start = at80A 0;
       first = charging 0 80000 ++ (brief 100 (measure 88001) ∷ brief 110 (measure 88000) ∷ brief 120 (measure 88001)
           ∷ (every 60 80 120 (swing 6000) ++ (brief 4900 (measure 200000) ∷ every 3 80 4900 (swing 6000))));
       entries =
@@ -32,11 +35,11 @@ overRunEnds =
           ∷ [];
     }
 
--- a measure with the contactor open or the wave not driven starts nothing
+-- whatever is measured, an open contactor starts no over-run
 abbrev pub overRunOpen : Sequence
 overRunOpen =
     record {
-      begin = at80A 0;
+      start = at80A 0;
       first = brief 0 (limit 80000) ∷ brief 10 (steady 9000) ∷ brief 20 (steady 9000) ∷ brief 25 (measure 200000) ∷ brief 30 (swing 6000) ∷ every 64 80 40 (swing 6000);
       entries =
           call 5100 tick 0 bandC 2 960 true 0 1
@@ -47,7 +50,7 @@ overRunOpen =
 abbrev pub betweenBands : Sequence
 betweenBands =
     record {
-      begin = at80A 0;
+      start = at80A 0;
       first = charging 0 80000;
       entries =
           call 50 (swing 7200) 0 bandC 2 960 true 0 1
@@ -62,7 +65,7 @@ betweenBands =
 abbrev pub noDiode : Sequence
 noDiode =
     record {
-      begin = at80A 0;
+      start = at80A 0;
       first = charging 0 80000;
       entries =
           call 50 (steady 6000) 0 bandC 2 960 true 0 1
@@ -77,7 +80,7 @@ noDiode =
 abbrev pub diodeBefore : Sequence
 diodeBefore =
     record {
-      begin = at80A 0;
+      start = at80A 0;
       first = charging 0 80000;
       entries =
           call 50 (steady 6000) 0 bandC 2 960 true 0 1
@@ -87,11 +90,11 @@ diodeBefore =
           ∷ [];
     }
 
--- before a limit is told there is no duty; begin tells the time of the last accepted call
+-- before a limit is told there is no duty; no call is earlier than begin
 abbrev pub noLimit : Sequence
 noLimit =
     record {
-      begin = at80A 4900;
+      start = at80A 4900;
       first = [];
       entries =
           call 4899 tick 2 letterU 0 1000 false 0 0
@@ -105,7 +108,7 @@ noLimit =
 abbrev pub clock : Sequence
 clock =
     record {
-      begin = at80A 0;
+      start = at80A 0;
       first = [];
       entries =
           call 100 (limit 80001) 7 letterU 0 1000 false 0 0
@@ -122,7 +125,7 @@ clock =
 abbrev pub refusedArguments : Sequence
 refusedArguments =
     record {
-      begin = at80A 0;
+      start = at80A 0;
       first = charging 0 80000;
       entries =
           call 50 (measure 200001) 7 bandC 2 960 true 0 1
@@ -137,7 +140,7 @@ refusedArguments =
 abbrev pub faultsTold : Sequence
 faultsTold =
     record {
-      begin = at80A 0;
+      start = at80A 0;
       first = charging 0 80000;
       entries =
           call 50 (fault 4) 0 letterF 0 0 false 4 1
@@ -155,7 +158,7 @@ faultsTold =
 abbrev pub faultAgain : Sequence
 faultAgain =
     record {
-      begin = at80A 0;
+      start = at80A 0;
       first = brief 0 (limit 80000) ∷ [];
       entries =
           call 10 (fault 3) 0 letterF 0 0 false 3 0
@@ -180,7 +183,7 @@ faultAgain =
 abbrev pub ventilatedPost : Sequence
 ventilatedPost =
     record {
-      begin = aired;
+      start = aired;
       first = [];
       entries =
           call 0 (limit 80000) 0 letterU 0 1000 false 0 0
@@ -200,7 +203,7 @@ ventilatedPost =
 abbrev pub plainPost : Sequence
 plainPost =
     record {
-      begin = at80A 0;
+      start = at80A 0;
       first = charging 0 80000;
       entries =
           call 50 (swing 3000) 0 bandC 2 960 true 0 1
@@ -213,7 +216,7 @@ plainPost =
 abbrev pub otherStates : Sequence
 otherStates =
     record {
-      begin = at32A 0;
+      start = at32A 0;
       first = [];
       entries =
           call 0 (limit 32000) 0 letterU 0 1000 false 0 0
@@ -233,7 +236,7 @@ otherStates =
 abbrev pub noBandBetween : Sequence
 noBandBetween =
     record {
-      begin = at80A 0;
+      start = at80A 0;
       first = [];
       entries =
           call 0 (limit 80000) 0 letterU 0 1000 false 0 0
@@ -250,13 +253,51 @@ noBandBetween =
 abbrev pub limitBack : Sequence
 limitBack =
     record {
-      begin = at80A 0;
+      start = at80A 0;
       first = charging 0 80000 ++ (brief 50 (limit 0) ∷ (every 37 80 60 (steady 6000) ++ (brief 3010 (limit 80000) ∷ [])));
       entries =
           call 3020 (swing 6000) 0 bandC 2 960 true 0 1
           ∷ call 3060 tick 0 bandC 2 960 true 0 1
           ∷ [];
     }
+
+-- controllers that no list leads to. With one of them: settled, faults, last sound sample, previous sample, contactor
+abbrev pub odd : Bool → ℕ → Faults → Moment → Previous → Lent
+odd closed settled faults sound previous =
+    record {
+      kept = record {
+        settings = record { rated = 80000; pause = 3000; ventilation = false };
+        limit = 80000;
+        wave = 960;
+        closed = closed;
+        settled = settled;
+        faults = faults;
+        last = 100;
+        sound = sound;
+        opening = empty;
+        overrun = empty;
+        stop = empty;
+        previous = previous;
+      };
+      closings = 7;
+    }
+
+-- a verdict that is not kept is no partner
+abbrev pub noPartner : Sequence
+noPartner =
+    record {
+      start = odd false bandB noFaults empty (record { kept = false; verdict = record { band = bandC; sound = true; proven = true; diodebad = false } });
+      first = [];
+      entries = call 110 (swing 6000) 0 bandB 2 960 false 0 7 ∷ call 120 (swing 6000) 0 bandC 2 960 true 0 8 ∷ [];
+    }
+
+-- closed without a sound sample so far
+abbrev pub neverSound : Sequence
+neverSound = record { start = odd true bandC noFaults empty forgotten; first = []; entries = call 110 tick 0 bandC 2 960 false 0 7 ∷ [] }
+
+-- a letter that is none of A to E is U
+abbrev pub noLetter : Sequence
+noLetter = record { start = odd false letterF noFaults empty forgotten; first = []; entries = call 110 tick 0 letterU 0 1000 false 0 7 ∷ [] }
 
 abbrev pub otherRows : List Sequence
 otherRows =
@@ -276,4 +317,7 @@ otherRows =
     ∷ otherStates
     ∷ noBandBetween
     ∷ limitBack
+    ∷ noPartner
+    ∷ neverSound
+    ∷ noLetter
     ∷ []

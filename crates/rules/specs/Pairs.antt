@@ -9,13 +9,13 @@ use Rattle.window.specs.Weighing.{Weighs, levels, refused}
 use Rattle.rules.specs.Calls.{Event, sample, limit, measure, fault, clear, tick, isSample}
 use Rattle.rules.specs.State.{State, Previous, noVerdict}
 
--- the call's own verdict, and the previous sample as it was kept before the call
+-- a call's own verdict, and the previous sample as the call finds it
 pub record Pair : Type 0 where
   pub sampled : Bool
   pub this : Verdict
   pub previous : Previous
 
--- a sample's verdict: from its levels and from the ventilation and wave kept before the call
+-- a sample's verdict: its levels, judged by the ventilation and the wave as the call finds them
 unfoldable pub verdict : State → Event Weighs → Verdict
 verdict s (sample (levels high low)) = verdictOf (s .wave) high low (s .settings .ventilation)
 verdict s (sample (refused number)) = noVerdict

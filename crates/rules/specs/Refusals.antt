@@ -12,7 +12,7 @@ use Rattle.rules.specs.State.{State}
 abbrev pub orElse : ℕ → ℕ → ℕ
 orElse first second = cond (eqb first 0) second first
 
--- 3 above the largest time, 2 below that of the last accepted call or begin
+-- 3: beyond the scale of times; 2: earlier than the last accepted call, or than begin if there was none
 unfoldable pub timeRefusal : State → ℕ → ℕ
 timeRefusal s now = cond (ltb largestTime now) 3 (cond (ltb now (s .last)) 2 0)
 

@@ -1,4 +1,4 @@
--- Each refusal number comes for its condition, and for nothing else: what demand 1 says of a call that is lent any controller.
+-- When each refusal number comes, exactly: demand 1 of a call that is lent any controller, altered or not.
 -- Proved in proofs/RefusalsAre.antt.
 use mathlib.Core.Path.{_≡_}
 use mathlib.Core.Bool.{true, false}
@@ -11,7 +11,7 @@ use Rattle.rules.specs.Begin.{largestTime}
 use Rattle.rules.specs.Calls.{Event, Call, sample, limit, measure, fault, clear, tick, heard}
 use Rattle.rules.specs.Lent.{Lent, altered, lentRefusal}
 
--- the time is not above the largest, nor below that of the last accepted call
+-- neither refusal 3 nor 2: the time is on the scale and does not go back
 abbrev pub OnTime : Lent → Call → Type 0
 OnTime lent call = (call .time ≤ largestTime) × (lent .kept .last ≤ call .time)
 

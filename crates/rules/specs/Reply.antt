@@ -23,7 +23,7 @@ letterF = 70
 abbrev pub letterU : ℕ
 letterU = 85
 
--- letter: F with a fault, else the settled one or U
+-- the letter: F under a fault, and U where nothing is settled
 unfoldable pub letter : State → ℕ
 letter s = cond (anyFault (s .faults)) letterF (cond (isLetter (s .settled)) (s .settled) letterU)
 

@@ -6,7 +6,6 @@ use Prim.Native.Nat.{ℕ, zero, suc, _+_}
 use lib.IntN.{ℤ, pos, negℤ}
 use lib.ListN.{replicate}
 use Rattle.rules.specs.Answer.{begun, next, replyTo, lentAfter}
-use Rattle.rules.specs.Begin.{Begin}
 use Rattle.rules.specs.Calls.{Event, Call, sample, limit, measure, fault, clear, tick, heard}
 use Rattle.rules.specs.Lent.{Lent}
 use Rattle.rules.specs.Reply.{Reply}
@@ -46,15 +45,15 @@ unfoldable pub repliesTo : Lent → List Call → List Reply
 repliesTo lent [] = []
 repliesTo lent (call ∷ calls) = replyTo lent (heard call) ∷ repliesTo (next lent (heard call)) calls
 
--- after begin and some calls whose replies are not told come calls with their replies
+-- a controller; calls whose replies are not told; and then calls with their replies
 pub record Sequence : Type 0 where
-  pub begin : Begin
+  pub start : Lent
   pub first : List Brief
   pub entries : List Entry
 
 abbrev pub Tells : Sequence → Type 0
 Tells sequence =
-    repliesTo (lentAfter (begun (sequence .begin)) (map callOf (sequence .first))) (map (λ entry. callOf (entry .brief)) (sequence .entries))
+    repliesTo (lentAfter (sequence .start) (map callOf (sequence .first))) (map (λ entry. callOf (entry .brief)) (sequence .entries))
     ≡ map (λ entry. entry .reply) (sequence .entries)
 
 abbrev pub AllTell : List Sequence → Type 0
@@ -84,15 +83,16 @@ call time event number letter digit wave closed kind closings =
       reply = record { refusal = number; letter = letter; digit = digit; wave = wave; closed = closed; fault = kind; closings = closings };
     }
 
-abbrev pub at32A : ℕ → Begin
-at32A time = record { time = time; rated = 32000; pause = 0; ventilation = false }
+-- the controllers of begin at a time: rated 32 A and 80 A, pause 0, no ventilation
+abbrev pub at32A : ℕ → Lent
+at32A time = begun (record { time = time; rated = 32000; pause = 0; ventilation = false })
 
-abbrev pub at80A : ℕ → Begin
-at80A time = record { time = time; rated = 80000; pause = 0; ventilation = false }
+abbrev pub at80A : ℕ → Lent
+at80A time = begun (record { time = time; rated = 80000; pause = 0; ventilation = false })
 
 -- a post with ventilation, and a pause that begin names
-abbrev pub aired : Begin
-aired = record { time = 0; rated = 80000; pause = 1000; ventilation = true }
+abbrev pub aired : Lent
+aired = begun (record { time = 0; rated = 80000; pause = 1000; ventilation = true })
 
 -- a first charge: B settles, and C closes 40 after begin
 abbrev pub charging : ℕ → ℕ → List Brief

@@ -9,7 +9,7 @@ use Rattle.rules.specs.Calls.{Event, sample, limit, measure, fault, clea
 use Rattle.rules.specs.Pairs.{Pair, inOneBand}
 use Rattle.rules.specs.State.{State, Moment, Faults, noFaults, empty, setTo, startedBy}
 
--- settling: two samples in one band settle that state, and nothing else does
+-- settling: by a pair in one band
 unfoldable pub settledBy : Pair → ℕ → ℕ
 settledBy pair settled = cond (inOneBand pair) (pair .this .band) settled
 
@@ -37,7 +37,7 @@ withKind kind faults =
       temperature = faults .temperature || eqb kind 5;
     }
 
--- fault latched; clear drops every latched fault
+-- latching by a fault call, and clear
 unfoldable pub faultsBy : Event Weighs → Faults → Faults
 faultsBy (sample window) faults = faults
 faultsBy (limit given) faults = faults

@@ -13,7 +13,7 @@ ranFor span now start = start .set && leb (start .time + span) now
 unfoldable pub overCurrent : ℕ → State → Bool
 overCurrent now s = ranFor 5000 now (s .overrun)
 
--- a latch of any kind, or a fault call for a latched fault: either way a fault call is one
+-- unsettling: something latches, or a latched fault is told again. A fault call always does one or the other
 unfoldable pub unsettles : Bool → ℕ → Pair → State → Bool
 unsettles faultCall now pair s = faultCall || (bothDiodeBad pair || overCurrent now s)
 
@@ -28,7 +28,7 @@ latched now pair s =
       temperature = s .faults .temperature;
     }
 
--- a latch unsettles to U and forgets the previous sample
+-- with the settled state goes the previous sample
 abbrev pub stepLatch : Bool → ℕ → Pair → State → State
 stepLatch faultCall now pair s =
     record {

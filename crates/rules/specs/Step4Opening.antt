@@ -7,23 +7,23 @@ use Rattle.rules.specs.Step2Latches.{ranFor}
 use Rattle.rules.specs.Step3Wave.{unventilatedD}
 use Rattle.rules.specs.State.{State, anyFault, empty, setTo, forgotten}
 
--- (i) this and the previous sample both unsound
+-- (i) a pair of unsound samples
 unfoldable pub cause1 : Pair → Bool
 cause1 pair = bothUnsound pair
 
--- (ii) more than 80 since the last sound sample, or none so far
+-- (ii) the last sound sample is more than 80 old, or there was none
 unfoldable pub cause2 : ℕ → State → Bool
 cause2 now s = cond (s .sound .set) (ltb (s .sound .time + 80) now) true
 
--- (iii) settled D without ventilation
+-- (iii) a state that needs ventilation, where there is none
 unfoldable pub cause3 : State → Bool
 cause3 s = unventilatedD s
 
--- (iv) a stop began 3,000 or more ago
+-- (iv) a stop that is 3,000 old
 unfoldable pub cause4 : ℕ → State → Bool
 cause4 now s = ranFor 3000 now (s .stop)
 
--- (v) a fault is latched
+-- (v) any fault
 unfoldable pub cause5 : State → Bool
 cause5 s = anyFault (s .faults)
 
@@ -34,7 +34,7 @@ cause now pair s = cause1 pair || (cause2 now s || (cause3 s || (cause4 now s ||
 unfoldable pub opens : ℕ → Pair → State → Bool
 opens now pair s = s .closed && cause now pair s
 
--- opening ends over-run and stop and forgets the previous sample
+-- with the contactor go the over-run, the stop and the previous sample
 abbrev pub stepOpening : ℕ → Pair → State → State
 stepOpening now pair s =
     record {

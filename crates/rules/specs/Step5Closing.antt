@@ -6,12 +6,12 @@ use Rattle.units.specs.Wave.{driven}
 use Rattle.rules.specs.Pairs.{Pair, bothProven}
 use Rattle.rules.specs.State.{State}
 
--- never opened, or the last opening at least the pause ago
+-- no opening yet, or the pause has passed since the last one
 unfoldable pub rested : ℕ → State → Bool
 rested now s = cond (s .opening .set) (leb (s .opening .time + s .settings .pause) now) true
 
--- every closing condition: open, not opened in this call, a sample call (which `bothProven` asks), a driven wave, this and the
--- previous sample both proven in the same band, and rested
+-- the closing conditions, all of them: the contactor is open, and this call did not open it; the wave is driven; the call is a
+-- sample and makes a proven pair in one band (`bothProven` asks for both); and the contactor has rested
 unfoldable pub closes : Bool → ℕ → Pair → State → Bool
 closes opened now pair s = not (s .closed) && (not opened && (driven (s .wave) && (bothProven pair && rested now s)))
 
