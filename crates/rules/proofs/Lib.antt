@@ -24,5 +24,6 @@ pub mod Squares
 pub mod Sequences
 pub mod BenchRows
 pub mod OtherRows
+pub mod StateRows
 pub mod RangeRows
 pub mod RefusalsAre

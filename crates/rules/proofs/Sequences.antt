@@ -75,7 +75,7 @@ abbrev pub repliesOn : Lent → List Brief → List Reply
 repliesOn lent [] = []
 repliesOn lent (first ∷ rest) = replyTo lent (heardOf first) ∷ repliesOn (next lent (heardOf first)) rest
 
-lent-on : (lent : Lent) (briefs : List Brief) → allSquare briefs ≡ true → lentAfter lent (map callOf briefs) ≡ lentOn lent briefs
+pub lent-on : (lent : Lent) (briefs : List Brief) → allSquare briefs ≡ true → lentAfter lent (map callOf briefs) ≡ lentOn lent briefs
 unfolding lentAfter
 lent-on lent [] right = refl
 lent-on lent (first ∷ rest) right =

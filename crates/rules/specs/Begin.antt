@@ -3,7 +3,7 @@ use mathlib.Core.Bool.{Bool, false, _&&_, _||_, cond}
 use Prim.Native.Nat.{ℕ}
 use lib.Dec.{eqb, ltb}
 use Rattle.units.specs.Range.{fromTo}
-use Rattle.rules.specs.State.{State, noFaults, empty, forgotten}
+use Rattle.rules.specs.State.{State, unsettled, noFaults, empty, forgotten}
 
 pub record Begin : Type 0 where
   pub time : ℕ
@@ -44,7 +44,7 @@ fresh begin =
       limit = 0;
       wave = 1000;
       closed = false;
-      settled = 0;
+      settled = unsettled;
       faults = noFaults;
       last = begin .time;
       sound = empty;

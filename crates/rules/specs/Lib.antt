@@ -20,5 +20,6 @@ pub mod EveryList
 pub mod Sequences
 pub mod BenchRows
 pub mod OtherRows
+pub mod StateRows
 pub mod RangeRows
 pub mod RefusalsAre

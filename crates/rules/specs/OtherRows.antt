@@ -31,6 +31,7 @@ overRunEnds =
       entries =
           call 5119 tick 0 bandC 2 960 true 0 1
           ∷ call 5120 tick 0 letterF 0 0 false 2 1
+          ∷ call 5125 tick 0 letterF 0 0 false 2 1
           ∷ call 5130 clear 0 letterU 0 1000 false 0 1
           ∷ [];
     }
@@ -70,6 +71,7 @@ noDiode =
       entries =
           call 50 (steady 6000) 0 bandC 2 960 true 0 1
           ∷ call 60 (steady 6000) 0 letterF 0 0 false 1 1
+          ∷ call 65 tick 0 letterF 0 0 false 1 1
           ∷ call 70 clear 0 letterU 0 1000 false 0 1
           ∷ call 80 (steady 6000) 0 letterU 0 1000 false 0 1
           ∷ call 90 (steady 6000) 0 bandC 2 960 false 0 1
@@ -87,6 +89,8 @@ diodeBefore =
           ∷ call 121 tick 0 bandC 2 960 false 0 1
           ∷ call 130 (steady 6000) 0 bandC 2 960 false 0 1
           ∷ call 140 (steady 6000) 0 letterF 0 0 false 1 1
+          ∷ call 150 clear 0 letterU 0 1000 false 0 1
+          ∷ call 160 (steady 6000) 0 letterU 0 1000 false 0 1
           ∷ [];
     }
 

@@ -29,6 +29,10 @@ noVerdict = record { band = 0; sound = false; proven = false; diodebad = false }
 abbrev pub forgotten : Previous
 forgotten = record { kept = false; verdict = noVerdict }
 
+-- U, as it is kept: nothing is settled
+abbrev pub unsettled : ℕ
+unsettled = 0
+
 -- begin's settings, the pause as it is in force
 pub record Settings : Type 0 where
   pub rated : ℕ
@@ -58,7 +62,7 @@ pub record State : Type 0 where
   pub wave : ℕ
   -- the contactor is closed
   pub closed : Bool
-  -- the settled state as its letter in ASCII; any other number is U
+  -- the settled state as its letter in ASCII; any number that is none of A to E is taken for U
   pub settled : ℕ
   pub faults : Faults
   -- the time of the last accepted call

@@ -3,7 +3,7 @@ use mathlib.Core.Bool.{Bool, _&&_, _||_, cond}
 use Prim.Native.Nat.{ℕ, _+_}
 use lib.Dec.{leb}
 use Rattle.rules.specs.Pairs.{Pair, bothDiodeBad}
-use Rattle.rules.specs.State.{State, Moment, Faults, forgotten}
+use Rattle.rules.specs.State.{State, Moment, Faults, unsettled, forgotten}
 
 -- it runs, and began that long ago or longer
 unfoldable pub ranFor : ℕ → ℕ → Moment → Bool
@@ -36,7 +36,7 @@ stepLatch faultCall now pair s =
       limit = s .limit;
       wave = s .wave;
       closed = s .closed;
-      settled = cond (unsettles faultCall now pair s) 0 (s .settled);
+      settled = cond (unsettles faultCall now pair s) unsettled (s .settled);
       faults = latched now pair s;
       last = s .last;
       sound = s .sound;
