@@ -1,27 +1,27 @@
 -- One controller lent from call to call keeps what the replay keeps, and refusal 1 never comes.
 use mathlib.Core.Path.{_≡_, refl, sym, _∙_, ap}
 use mathlib.Core.Bool.{Bool, true, false, _&&_, cond}
-use mathlib.Core.List.{List, [], _∷_}
-use Prim.Native.Nat.{ℕ, zero, suc, _≤_, _<_}
-use native.Mathlib.Nat.{not-suc-le-zero, le-of-suc-le-suc}
+use mathlib.Core.List.{List}
+use Prim.Native.Nat.{ℕ, zero, suc, _≤_}
 use native.Mathlib.Omega.{arith}
 use lib.Dec.{eqb}
-use lib.ListN.{length, getD, take}
+use lib.ListN.{length, take}
 use borrow.Author.Tests.{le-leb}
 use Rattle.rules.specs.Accepted.{closesAt}
-use Rattle.rules.specs.Answer.{begun, acceptLent, next, lentAfter}
+use Rattle.rules.specs.Answer.{begun, acceptLent, next}
 use Rattle.rules.specs.Begin.{Begin, beginRefusal}
-use Rattle.rules.specs.Calls.{Call, Heard, heard}
+use Rattle.rules.specs.Calls.{Call, Heard, inTurn}
 use Rattle.rules.specs.Claim.{Demand3}
 use Rattle.rules.specs.Lent.{Lent, mostClosings, altered, lentRefusal}
 use Rattle.rules.specs.Refusals.{refusal}
-use Rattle.rules.specs.Replay.{isAccepted, step, after, replay}
+use Rattle.rules.specs.Replay.{isAccepted, step, replay}
 use Rattle.rules.specs.State.{State}
 use Rattle.rules.specs.Step5Closing.{closingsBy}
-use Rattle.rules.specs.Traces.{noCall, before, callAt, traceOf, lentAt, replyBefore, answered}
+use Rattle.rules.specs.Traces.{before, callAt, traceOf, lentAt, replyBefore, answered}
 use Rattle.rules.proofs.Lists.{list-in-range}
 use Rattle.rules.proofs.Ranges.{range-whole}
 use Rattle.rules.proofs.Replayed.{before-next, step-by, keptOf, Tells, lawful, demand3-told}
+use Rattle.rules.proofs.Turns.{turn-next}
 use Rattle.rules.proofs.Spacing.{at-most, counts}
 
 -- a controller that was not altered is refused what the table refuses
@@ -52,13 +52,6 @@ next-follows s n call same = go (isAccepted s call) refl
         next-by lent call false (ap (λ r. eqb r 0) (lent-refusal lent call same) ∙ out)
         ∙ rw (step-by s call false out, out)
 
-pub lent-next : (lent : Lent) (calls : List Call) (k : ℕ) → k < length calls
-    → lentAfter lent (take (suc k) calls) ≡ next (lentAfter lent (take k calls)) (heard (getD calls k noCall))
-unfolding lentAfter
-lent-next lent [] k below = absurd (not-suc-le-zero below)
-lent-next lent (call ∷ calls) zero below = refl
-lent-next lent (call ∷ calls) (suc k) below = lent-next (next lent (heard call)) calls k (le-of-suc-le-suc below)
-
 module _ (begin : Begin) (calls : List Call) (accepted : beginRefusal begin ≡ 0) where
   -- the closings of the replay before call k
   abbrev tally : ℕ → ℕ
@@ -81,10 +74,10 @@ module _ (begin : Begin) (calls : List Call) (accepted : beginRefusal begin ≡ 
       rw (range-whole (before begin calls k) (list-in-range begin (take k calls) accepted), le-leb (tally k) mostClosings (tally-most k within))
 
   pub lent-is : (k : ℕ) → k ≤ length calls → lentAt begin calls k ≡ record { kept = before begin calls k; closings = tally k }
-  unfolding replay after lentAfter
+  unfolding replay inTurn
   lent-is zero within = refl
   lent-is (suc k) within =
-      lent-next (begun begin) calls k within
+      turn-next next (begun begin) calls k within
       ∙ ap (λ l. next l (callAt begin calls k)) (lent-is k (omega arith))
       ∙ next-follows (before begin calls k) (tally k) (callAt begin calls k) (tally-not-altered k (omega arith))
       ∙ ap (λ s. record { kept = s; closings = tally (suc k) }) (sym (before-next begin calls k within))
@@ -93,9 +86,9 @@ module _ (begin : Begin) (calls : List Call) (accepted : beginRefusal begin ≡ 
   pub reply-is : {A : Type 0} (f : Lent → A) (g : ℕ → A) → g 0 ≡ f (begun begin)
       → ((k : ℕ) → g (suc k) ≡ f (next (lentAt begin calls k) (callAt begin calls k))) → (k : ℕ) → k ≤ length calls
       → g k ≡ f (record { kept = before begin calls k; closings = tally k })
-  unfolding replay after
+  unfolding replay inTurn
   reply-is f g first later zero within = first
-  reply-is f g first later (suc k) within = later k ∙ ap f (sym (lent-next (begun begin) calls k within) ∙ lent-is (suc k) within)
+  reply-is f g first later (suc k) within = later k ∙ ap f (sym (turn-next next (begun begin) calls k within) ∙ lent-is (suc k) within)
 
   pub closings-told : (k : ℕ) → k ≤ length calls → replyBefore begin calls k .closings ≡ tally k
   closings-told = reply-is (λ l. l .closings) (λ k. replyBefore begin calls k .closings) refl (λ k. refl)

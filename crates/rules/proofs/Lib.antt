@@ -1,6 +1,7 @@
 -- Laws of one call, and the theorems over every list.
 pub mod Booleans
 pub mod Lawful
+pub mod Turns
 pub mod Exactly
 pub mod Remembered
 pub mod Rests
@@ -27,3 +28,4 @@ pub mod OtherRows
 pub mod StateRows
 pub mod RangeRows
 pub mod RefusalsAre
+pub mod Apart

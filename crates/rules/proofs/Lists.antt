@@ -6,10 +6,10 @@ use Rattle.units.specs.Range.{fromTo}
 use Rattle.units.specs.Wave.{driven}
 use Rattle.rules.specs.Accepted.{accept}
 use Rattle.rules.specs.Begin.{Begin, beginRefusal, fresh}
-use Rattle.rules.specs.Calls.{Call, Heard, heard}
+use Rattle.rules.specs.Calls.{Call, Heard, heard, inTurn}
 use Rattle.rules.specs.Lent.{waveAllowed, storedAllowed}
 use Rattle.rules.specs.Refusals.{limitAllowed}
-use Rattle.rules.specs.Replay.{isAccepted, step, after, replay}
+use Rattle.rules.specs.Replay.{isAccepted, step, replay}
 use Rattle.rules.specs.State.{State}
 use Rattle.rules.proofs.Acceptance.{begins}
 use Rattle.rules.proofs.Ranges.{InRange, range-kept}
@@ -23,8 +23,8 @@ module _ (Holds : State → Type 0) (keeps : (s : State) (call : Heard) → isAc
       go true into = rw (step-by s call true into) (keeps s call into holds)
       go false out = rw (step-by s call false out) holds
 
-  pub after-keeps : (s : State) (calls : List Call) → Holds s → Holds (after s calls)
-  unfolding after
+  pub after-keeps : (s : State) (calls : List Call) → Holds s → Holds (inTurn step s calls)
+  unfolding inTurn
   after-keeps s [] holds = holds
   after-keeps s (call ∷ calls) holds = after-keeps (step s (heard call)) calls (step-keeps s (heard call) holds)
 

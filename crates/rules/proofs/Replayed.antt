@@ -2,21 +2,21 @@
 use mathlib.Core.Path.{_≡_, refl, sym, _∙_, ap}
 use mathlib.Core.Bool.{Bool, true, false, _&&_, _||_, not, cond}
 use mathlib.Core.List.{List, [], _∷_}
-use Prim.Native.Nat.{ℕ, zero, suc, _≤_, _<_}
-use native.Mathlib.Nat.{not-suc-le-zero, le-of-suc-le-suc}
+use Prim.Native.Nat.{ℕ, suc, _≤_, _<_}
 use native.Mathlib.Omega.{arith}
-use lib.ListN.{length, getD, take}
+use lib.ListN.{length, take}
 use Rattle.rules.specs.Accepted.{causeAt, closesAt, accept}
 use Rattle.rules.specs.Begin.{Begin, pauseFor, beginRefusal, fresh}
-use Rattle.rules.specs.Calls.{Call, Heard, heard}
+use Rattle.rules.specs.Calls.{Call, Heard, heard, inTurn}
 use Rattle.rules.specs.Claim.{Demand3}
-use Rattle.rules.specs.Replay.{isAccepted, step, after, replay}
+use Rattle.rules.specs.Replay.{isAccepted, step, replay}
 use Rattle.rules.specs.State.{State, setTo}
 use Rattle.rules.specs.Step5Closing.{closingsBy}
-use Rattle.rules.specs.Traces.{noCall, before, callAt, traceOf}
+use Rattle.rules.specs.Traces.{before, callAt, traceOf}
 use Rattle.rules.proofs.Acceptance.{on-time, begins, pause-least}
 use Rattle.rules.proofs.Demand3.{demand3-of}
 use Rattle.rules.proofs.Lawful.{Kept, Meets, Law, Lawful}
+use Rattle.rules.proofs.Turns.{turn-next}
 use Rattle.rules.proofs.OneCall.{closed-next, opening-next, previous-opened, previous-sample, previous-other, meets-all}
 
 -- one call: refused, nothing changes; accepted, it goes through the steps
@@ -33,16 +33,8 @@ module _ (s : State) (call : Heard) where
       go true p = ap f (step-by true p) ∙ e
       go false p = ap f (step-by false p)
 
--- the replay, call by call
-pub after-next : (s : State) (calls : List Call) (k : ℕ) → k < length calls
-    → after s (take (suc k) calls) ≡ step (after s (take k calls)) (heard (getD calls k noCall))
-unfolding after
-after-next s [] k below = absurd (not-suc-le-zero below)
-after-next s (call ∷ calls) zero below = refl
-after-next s (call ∷ calls) (suc k) below = after-next (step s (heard call)) calls k (le-of-suc-le-suc below)
-
-pub settings-kept : (s : State) (calls : List Call) → after s calls .settings ≡ s .settings
-unfolding after
+pub settings-kept : (s : State) (calls : List Call) → inTurn step s calls .settings ≡ s .settings
+unfolding inTurn
 settings-kept s [] = refl
 settings-kept s (call ∷ calls) = settings-kept (step s (heard call)) calls ∙ step-to s (heard call) (λ x. x .settings) (s .settings) refl ∙ same (isAccepted s (heard call))
   where
@@ -53,7 +45,7 @@ settings-kept s (call ∷ calls) = settings-kept (step s (heard call)) calls ∙
 module _ (begin : Begin) (calls : List Call) where
   pub before-next : (k : ℕ) → k < length calls → before begin calls (suc k) ≡ step (before begin calls k) (callAt begin calls k)
   unfolding replay
-  before-next k below = after-next (fresh begin) calls k below
+  before-next k below = turn-next step (fresh begin) calls k below
 
   pub pause-kept : (k : ℕ) → before begin calls k .settings .pause ≡ pauseFor (begin .pause)
   unfolding replay fresh
@@ -146,7 +138,7 @@ module _ (begin : Begin) (calls : List Call) where
           }
 
     pub lawful : beginRefusal begin ≡ 0 → Lawful (traceOf begin calls told carried) keptOf
-    unfolding replay after fresh
+    unfolding replay inTurn fresh
     lawful accepted =
         record {
           starts-open = tells .told-is 0 (omega arith);

@@ -16,7 +16,7 @@ use Rattle.duty.specs.Reading.{readingOf}
 use Rattle.window.specs.Weighing.{Weighs, levels, readingAllowed}
 use Rattle.rules.specs.Answer.{next, replyTo, lentAfter}
 use Rattle.rules.specs.Begin.{ratedAllowed, pauseAllowed, pauseFor, fresh}
-use Rattle.rules.specs.Calls.{Event, Heard, sample, limit, measure, fault, clear, tick, weighed, heard}
+use Rattle.rules.specs.Calls.{Event, Heard, sample, limit, measure, fault, clear, tick, weighed, heard, inTurn}
 use Rattle.rules.specs.Lent.{Lent, waveAllowed, storedAllowed, timesAllowed, inRange, altered, lentRefusal}
 use Rattle.rules.specs.Pairs.{verdict, paired, sameBand, inOneBand, bothProven, bothDiodeBad, bothUnsound}
 use Rattle.rules.specs.Refusals.{timeRefusal, kindAllowed, limitAllowed, measureAllowed, argumentRefusal}
@@ -76,7 +76,7 @@ repliesOn lent [] = []
 repliesOn lent (first ∷ rest) = replyTo lent (heardOf first) ∷ repliesOn (next lent (heardOf first)) rest
 
 pub lent-on : (lent : Lent) (briefs : List Brief) → allSquare briefs ≡ true → lentAfter lent (map callOf briefs) ≡ lentOn lent briefs
-unfolding lentAfter
+unfolding inTurn
 lent-on lent [] right = refl
 lent-on lent (first ∷ rest) right =
     let parts = and-parts (isSquare (first .event)) (allSquare rest) right in

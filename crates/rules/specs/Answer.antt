@@ -1,10 +1,10 @@
 -- What a call answers to any lent controller: the controller after it, and the reply.
 use mathlib.Core.Bool.{cond}
-use mathlib.Core.List.{List, [], _∷_}
+use mathlib.Core.List.{List}
 use lib.Dec.{eqb}
 use Rattle.rules.specs.Accepted.{accept, closesAt}
 use Rattle.rules.specs.Begin.{Begin, fresh}
-use Rattle.rules.specs.Calls.{Call, Heard, heard}
+use Rattle.rules.specs.Calls.{Call, Heard, inTurn}
 use Rattle.rules.specs.Lent.{Lent, lentRefusal}
 use Rattle.rules.specs.Reply.{Reply, shown}
 use Rattle.rules.specs.Step5Closing.{closingsBy}
@@ -27,6 +27,5 @@ abbrev pub replyTo : Lent → Heard → Reply
 replyTo lent call = shown (lentRefusal lent call) (next lent call)
 
 -- one controller, lent from call to call
-unfoldable pub lentAfter : Lent → List Call → Lent
-lentAfter lent [] = lent
-lentAfter lent (call ∷ calls) = lentAfter (next lent (heard call)) calls
+abbrev pub lentAfter : Lent → List Call → Lent
+lentAfter lent calls = inTurn next lent calls

@@ -1,6 +1,6 @@
 -- The calls of a list (document 01, "The calls"): any numbers, any window.
 use mathlib.Core.Bool.{Bool, true, false}
-use mathlib.Core.List.{List}
+use mathlib.Core.List.{List, [], _∷_}
 use Prim.Native.Nat.{ℕ}
 use lib.IntN.{ℤ}
 use Rattle.window.specs.Weighing.{Weighs, weighing}
@@ -33,6 +33,11 @@ weighed tick = tick
 
 abbrev pub heard : Call → Heard
 heard call = record { time = call .time; event = weighed (call .event) }
+
+-- the calls of a list in turn, each from what the one before it left
+unfoldable pub inTurn : {S : Type 0} → (S → Heard → S) → S → List Call → S
+inTurn one s [] = s
+inTurn one s (call ∷ calls) = inTurn one (one s (heard call)) calls
 
 abbrev pub isSample : Event Weighs → Bool
 isSample (sample window) = true

@@ -299,9 +299,14 @@ noPartner =
 abbrev pub neverSound : Sequence
 neverSound = record { start = odd true bandC noFaults empty forgotten; first = []; entries = call 110 tick 0 bandC 2 960 false 0 7 ∷ [] }
 
--- a letter that is none of A to E is U
+-- a kept letter that is none of A to E, here F, acts as U and is shown as U. The letters are in ASCII: F is 70 and U is 85
 abbrev pub noLetter : Sequence
-noLetter = record { start = odd false letterF noFaults empty forgotten; first = []; entries = call 110 tick 0 letterU 0 1000 false 0 7 ∷ [] }
+noLetter =
+    record {
+      start = odd false 70 noFaults empty forgotten;
+      first = [];
+      entries = call 110 tick 0 85 0 1000 false 0 7 ∷ call 120 (fault 3) 0 70 0 0 false 3 7 ∷ [];
+    }
 
 abbrev pub otherRows : List Sequence
 otherRows =

@@ -1,10 +1,10 @@
 -- The replay of a list (document 01, demand 3): fed begin's values and the calls, and nothing else.
 use mathlib.Core.Bool.{Bool, cond}
-use mathlib.Core.List.{List, [], _∷_}
+use mathlib.Core.List.{List}
 use lib.Dec.{eqb}
 use Rattle.rules.specs.Accepted.{accept}
 use Rattle.rules.specs.Begin.{Begin, fresh}
-use Rattle.rules.specs.Calls.{Call, Heard, heard}
+use Rattle.rules.specs.Calls.{Call, Heard, inTurn}
 use Rattle.rules.specs.Refusals.{refusal}
 use Rattle.rules.specs.State.{State}
 
@@ -16,10 +16,5 @@ isAccepted s call = eqb (refusal s call) 0
 unfoldable pub step : State → Heard → State
 step s call = cond (isAccepted s call) (accept s call) s
 
--- the calls of a list, one after the other
-unfoldable pub after : State → List Call → State
-after s [] = s
-after s (call ∷ calls) = after (step s (heard call)) calls
-
 unfoldable pub replay : Begin → List Call → State
-replay begin calls = after (fresh begin) calls
+replay begin calls = inTurn step (fresh begin) calls
