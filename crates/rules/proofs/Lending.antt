@@ -90,13 +90,16 @@ module _ (begin : Begin) (calls : List Call) (accepted : beginRefusal begin ≡ 
   reply-is f g first later zero within = first
   reply-is f g first later (suc k) within = later k ∙ ap f (sym (turn-next next (begun begin) calls k within) ∙ lent-is (suc k) within)
 
+  pub contactor-told : (k : ℕ) → k ≤ length calls → replyBefore begin calls k .closed ≡ before begin calls k .closed
+  contactor-told = reply-is (λ l. l .kept .closed) (λ k. replyBefore begin calls k .closed) refl (λ k. refl)
+
   pub closings-told : (k : ℕ) → k ≤ length calls → replyBefore begin calls k .closings ≡ tally k
   closings-told = reply-is (λ l. l .closings) (λ k. replyBefore begin calls k .closings) refl (λ k. refl)
 
   tells : Tells begin calls (λ k. replyBefore begin calls k .closed) (λ k. replyBefore begin calls k .closings)
   tells =
       record {
-        told-is = reply-is (λ l. l .kept .closed) (λ k. replyBefore begin calls k .closed) refl (λ k. refl);
+        told-is = contactor-told;
         carried-none = refl;
         carried-next = λ k below. closings-told (suc k) below ∙ rw (closings-told k (omega arith));
       }

@@ -1,4 +1,4 @@
--- Demand 3: one claim about a whole list, call by call. Call k is the one with k calls before it.
+-- Demand 3: one claim about a whole list. Call k of it is the one with k calls before it.
 use mathlib.Core.Path.{_≡_}
 use mathlib.Core.Bool.{Bool, true, false, _&&_, not, cond}
 use mathlib.Core.Logic.{_↔_}

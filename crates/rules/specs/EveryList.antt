@@ -17,7 +17,7 @@ use Rattle.rules.specs.State.{State, anyFault}
 use Rattle.rules.specs.Step3Wave.{steadyLow, available}
 use Rattle.rules.specs.Traces.{before, callAt, lentAt, replyBefore, answered}
 
--- a state that some list leads to
+-- what is true of every state that a list leads to
 pub record Reached (s : State) : Type 0 where
   pub wave-low : (s .wave ≡ steadyLow) ↔ (anyFault (s .faults) ≡ true)
   -- a driven wave: B, C or ventilated D settled, and 6,000 or more available
@@ -40,8 +40,9 @@ pub record EveryList (begin : Begin) (calls : List Call) : Type 0 where
   -- each reply's refusal number is the table's, and its wave the replay's
   pub refusals : (k : ℕ) → k < length calls → replyBefore begin calls (suc k) .refusal ≡ refusal (before begin calls k) (callAt begin calls k)
   pub waves : (k : ℕ) → k ≤ length calls → replyBefore begin calls k .wave ≡ before begin calls k .wave
-  -- the controller keeps what the replay keeps, and the closings that it last told; refusal 1 never names it
+  -- the controller keeps what the replay keeps, and holds the contactor and the closings that were last told; refusal 1 never names it
   pub kept : (k : ℕ) → k ≤ length calls → lentAt begin calls k .kept ≡ before begin calls k
+  pub held : (k : ℕ) → k ≤ length calls → lentAt begin calls k .kept .closed ≡ replyBefore begin calls k .closed
   pub carried : (k : ℕ) → k ≤ length calls → lentAt begin calls k .closings ≡ replyBefore begin calls k .closings
   pub not-altered : (k : ℕ) → k ≤ length calls → altered (lentAt begin calls k) ≡ false
   pub reached : Reached (replay begin calls)

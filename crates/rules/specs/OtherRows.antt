@@ -32,6 +32,7 @@ overRunEnds =
           call 5119 tick 0 bandC 2 960 true 0 1
           ∷ call 5120 tick 0 letterF 0 0 false 2 1
           ∷ call 5125 tick 0 letterF 0 0 false 2 1
+          ∷ call 5126 (fault 3) 0 letterF 0 0 false 2 1
           ∷ call 5130 clear 0 letterU 0 1000 false 0 1
           ∷ [];
     }
@@ -72,6 +73,7 @@ noDiode =
           call 50 (steady 6000) 0 bandC 2 960 true 0 1
           ∷ call 60 (steady 6000) 0 letterF 0 0 false 1 1
           ∷ call 65 tick 0 letterF 0 0 false 1 1
+          ∷ call 66 (fault 3) 0 letterF 0 0 false 1 1
           ∷ call 70 clear 0 letterU 0 1000 false 0 1
           ∷ call 80 (steady 6000) 0 letterU 0 1000 false 0 1
           ∷ call 90 (steady 6000) 0 bandC 2 960 false 0 1
@@ -253,6 +255,25 @@ noBandBetween =
           ∷ [];
     }
 
+-- calls between two samples do not part them
+abbrev pub callsBetween : Sequence
+callsBetween =
+    record {
+      start = at80A 0;
+      first = brief 0 (limit 80000) ∷ [];
+      entries =
+          call 10 (steady 9000) 0 letterU 0 1000 false 0 0
+          ∷ call 15 tick 0 letterU 0 1000 false 0 0
+          ∷ call 20 (steady 9000) 0 bandB 2 960 false 0 0
+          ∷ call 30 (swing 6000) 0 bandB 2 960 false 0 0
+          ∷ call 31 (limit 80000) 0 bandB 2 960 false 0 0
+          ∷ call 32 (measure 0) 0 bandB 2 960 false 0 0
+          ∷ call 33 clear 0 bandB 2 960 false 0 0
+          ∷ call 34 (fault 9) 8 bandB 2 960 false 0 0
+          ∷ call 40 (swing 6000) 0 bandC 2 960 true 0 1
+          ∷ [];
+    }
+
 -- a limit that comes back ends the stop
 abbrev pub limitBack : Sequence
 limitBack =
@@ -265,7 +286,7 @@ limitBack =
           ∷ [];
     }
 
--- controllers that no list leads to. With one of them: settled, faults, last sound sample, previous sample, contactor
+-- a controller that no list leads to, in range: contactor, settled state, faults, last sound sample and previous sample as given
 abbrev pub odd : Bool → ℕ → Faults → Moment → Previous → Lent
 odd closed settled faults sound previous =
     record {
@@ -325,6 +346,7 @@ otherRows =
     ∷ plainPost
     ∷ otherStates
     ∷ noBandBetween
+    ∷ callsBetween
     ∷ limitBack
     ∷ noPartner
     ∷ neverSound

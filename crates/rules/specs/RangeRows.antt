@@ -61,7 +61,7 @@ lent wave current rated pause last sound opening overrun stop closings =
 abbrev pub unset : Moment
 unset = record { set = false; time = 51 }
 
--- a lent controller, and what a limit of 80,001 at 50 is refused for: 7 if the controller is as a list leaves it
+-- a limit of 80,001 at 50 is refused with 7 where the lent controller is in range
 abbrev pub inside : List Lent
 inside =
     lent 0 0 6000 1000 50 (setTo 50) (setTo 50) (setTo 50) (setTo 50) 1000000001
@@ -70,6 +70,7 @@ inside =
     ∷ lent 1000 0 6000 1000 0 empty empty empty empty 0
     ∷ []
 
+-- and with 1 where it is not
 abbrev pub outside : List Lent
 outside =
     lent 99 0 6000 1000 50 empty empty empty empty 0

@@ -1,11 +1,15 @@
 -- What is kept though no reply shows it. Proved in proofs/StateRows.antt.
 use mathlib.Core.Path.{_≡_}
-use mathlib.Core.Bool.{true, false}
+use mathlib.Core.Bool.{Bool, true, false}
 use mathlib.Core.List.{List, [], _∷_, map}
+use Prim.Native.Nat.{ℕ}
+use Rattle.pilot.specs.Bands.{bandC}
 use Rattle.rules.specs.Answer.{lentAfter}
 use Rattle.rules.specs.Begin.{fresh}
-use Rattle.rules.specs.Calls.{fault}
+use Rattle.rules.specs.Calls.{measure, fault, tick}
+use Rattle.rules.specs.Lent.{Lent}
 use Rattle.rules.specs.Sequences.{Brief, callOf, brief, at80A}
+use Rattle.rules.specs.State.{Moment, Faults, noFaults, empty, setTo, forgotten}
 
 -- begin at 5, with pause 0 and ventilation
 abbrev pub FreshRow : Type 0
@@ -34,3 +38,35 @@ abbrev pub FaultsRow : Type 0
 FaultsRow =
     lentAfter (at80A 0) (map callOf faultCalls) .kept .faults
     ≡ record { diode = false; overcurrent = false; residual = true; welded = true; temperature = true }
+
+-- a controller that no list leads to, in range: wave, contactor, faults and stop as given
+abbrev pub odd : ℕ → Bool → Faults → Moment → Lent
+odd wave closed faults stop =
+    record {
+      kept = record {
+        settings = record { rated = 80000; pause = 3000; ventilation = false };
+        limit = 80000;
+        wave = wave;
+        closed = closed;
+        settled = bandC;
+        faults = faults;
+        last = 100;
+        sound = setTo 100;
+        opening = empty;
+        overrun = empty;
+        stop = stop;
+        previous = forgotten;
+      };
+      closings = 7;
+    }
+
+-- a measure is judged by the wave as the call finds it: a steady one starts no over-run, though step 3 then drives it
+abbrev pub SteadyRow : Type 0
+SteadyRow = lentAfter (odd 1000 true noFaults empty) (map callOf (brief 110 (measure 200000) ∷ [])) .kept .overrun ≡ empty
+
+-- a wave of 0 neither starts nor ends a stop
+abbrev pub residual : Faults
+residual = record { diode = false; overcurrent = false; residual = true; welded = false; temperature = false }
+
+abbrev pub StopRow : Type 0
+StopRow = lentAfter (odd 0 false residual (setTo 50)) (map callOf (brief 110 tick ∷ [])) .kept .stop ≡ setTo 50
