@@ -1,6 +1,6 @@
 -- The other sequences, computed.
 use mathlib.Core.Path.{refl}
-use Rattle.rules.specs.OtherRows.{limitRepeated, overRunEnds, overRunOpen, betweenBands, noDiode, diodeBefore, noLimit, clock, refusedArguments, faultsTold, faultAgain, ventilatedPost, plainPost, otherStates, noBandBetween, callsBetween, limitBack, noPartner, neverSound, noLetter, otherRows}
+use Rattle.rules.specs.OtherRows.{limitRepeated, overRunEnds, overRunOpen, betweenBands, noDiode, diodeBefore, noLimit, clock, refusedArguments, faultsTold, faultAgain, ventilatedPost, plainPost, otherStates, noBandBetween, callsBetween, limitBack, noPartner, noPartnerDiode, neverSound, noLetter, otherRows}
 use Rattle.rules.specs.Sequences.{Tells, AllTell}
 use Rattle.rules.proofs.Sequences.{tells-by, computed}
 
@@ -76,6 +76,10 @@ no-partner : Tells noPartner
 unfolding computed
 no-partner = tells-by noPartner _ refl refl refl refl
 
+no-partner-diode : Tells noPartnerDiode
+unfolding computed
+no-partner-diode = tells-by noPartnerDiode _ refl refl refl refl
+
 never-sound : Tells neverSound
 unfolding computed
 never-sound = tells-by neverSound _ refl refl refl refl
@@ -86,4 +90,4 @@ no-letter = tells-by noLetter _ refl refl refl refl
 
 pub other-rows : AllTell otherRows
 other-rows =
-    (limit-repeated, (over-run-ends, (over-run-open, (between-bands, (no-diode, (diode-before, (no-limit, (clock-row, (refused-arguments, (faults-told, (fault-again, (ventilated-post, (plain-post, (other-states, (no-band-between, (calls-between, (limit-back, (no-partner, (never-sound, (no-letter, tt))))))))))))))))))))
+    (limit-repeated, (over-run-ends, (over-run-open, (between-bands, (no-diode, (diode-before, (no-limit, (clock-row, (refused-arguments, (faults-told, (fault-again, (ventilated-post, (plain-post, (other-states, (no-band-between, (calls-between, (limit-back, (no-partner, (no-partner-diode, (never-sound, (no-letter, tt)))))))))))))))))))))

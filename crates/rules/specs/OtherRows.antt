@@ -316,6 +316,15 @@ noPartner =
       entries = call 110 (swing 6000) 0 bandB 2 960 false 0 7 ∷ call 120 (swing 6000) 0 bandC 2 960 true 0 8 ∷ [];
     }
 
+-- nor does it count for a missing diode
+abbrev pub noPartnerDiode : Sequence
+noPartnerDiode =
+    record {
+      start = odd false bandC noFaults empty (record { kept = false; verdict = record { band = bandC; sound = false; proven = false; diodebad = true } });
+      first = [];
+      entries = call 110 (steady 6000) 0 bandC 2 960 false 0 7 ∷ call 120 (steady 6000) 0 letterF 0 0 false 1 7 ∷ [];
+    }
+
 -- closed without a sound sample so far
 abbrev pub neverSound : Sequence
 neverSound = record { start = odd true bandC noFaults empty forgotten; first = []; entries = call 110 tick 0 bandC 2 960 false 0 7 ∷ [] }
@@ -349,6 +358,7 @@ otherRows =
     ∷ callsBetween
     ∷ limitBack
     ∷ noPartner
+    ∷ noPartnerDiode
     ∷ neverSound
     ∷ noLetter
     ∷ []
