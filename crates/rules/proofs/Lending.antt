@@ -20,7 +20,7 @@ use Rattle.rules.specs.Step5Closing.{closingsBy}
 use Rattle.rules.specs.Traces.{before, callAt, traceOf, lentAt, replyBefore, answered}
 use Rattle.rules.proofs.Lists.{list-in-range}
 use Rattle.rules.proofs.Ranges.{range-whole}
-use Rattle.rules.proofs.Replayed.{before-next, step-by, keptOf, Tells, lawful, demand3-told}
+use Rattle.rules.proofs.Replayed.{before-next, step-by, keptOf, Follows, lawful, demand3-told}
 use Rattle.rules.proofs.Turns.{turn-next}
 use Rattle.rules.proofs.Spacing.{at-most, counts}
 
@@ -58,7 +58,7 @@ module _ (begin : Begin) (calls : List Call) (accepted : beginRefusal begin ≡ 
   tally zero = 0
   tally (suc k) = closingsBy (isAccepted (before begin calls k) (callAt begin calls k) && closesAt (before begin calls k) (callAt begin calls k)) (tally k)
 
-  by-replay : Tells begin calls (λ k. before begin calls k .closed) tally
+  by-replay : Follows begin calls (λ k. before begin calls k .closed) tally
   by-replay = record { told-is = λ k below. refl; carried-none = refl; carried-next = λ k below. refl }
 
   tally-most : (k : ℕ) → k ≤ length calls → tally k ≤ mostClosings
@@ -96,7 +96,7 @@ module _ (begin : Begin) (calls : List Call) (accepted : beginRefusal begin ≡ 
   pub closings-told : (k : ℕ) → k ≤ length calls → replyBefore begin calls k .closings ≡ tally k
   closings-told = reply-is (λ l. l .closings) (λ k. replyBefore begin calls k .closings) refl (λ k. refl)
 
-  tells : Tells begin calls (λ k. replyBefore begin calls k .closed) (λ k. replyBefore begin calls k .closings)
+  tells : Follows begin calls (λ k. replyBefore begin calls k .closed) (λ k. replyBefore begin calls k .closings)
   tells =
       record {
         told-is = contactor-told;

@@ -60,13 +60,13 @@ module _ (begin : Begin) (calls : List Call) where
       }
 
   -- contactor and closings as told, tied to the replay
-  pub record Tells (told : ℕ → Bool) (carried : ℕ → ℕ) : Type 0 where
+  pub record Follows (told : ℕ → Bool) (carried : ℕ → ℕ) : Type 0 where
     pub told-is : (k : ℕ) → k ≤ length calls → told k ≡ before begin calls k .closed
     pub carried-none : carried 0 ≡ 0
     pub carried-next : (k : ℕ) → k < length calls
         → carried (suc k) ≡ closingsBy (isAccepted (before begin calls k) (callAt begin calls k) && closesAt (before begin calls k) (callAt begin calls k)) (carried k)
 
-  module _ (told : ℕ → Bool) (carried : ℕ → ℕ) (tells : Tells told carried) where
+  module _ (told : ℕ → Bool) (carried : ℕ → ℕ) (tells : Follows told carried) where
     module _ (k : ℕ) (below : k < length calls) where
       abbrev s : State
       s = before begin calls k
