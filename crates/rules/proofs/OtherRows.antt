@@ -1,6 +1,6 @@
 -- The other sequences, computed.
 use mathlib.Core.Path.{refl}
-use Rattle.rules.specs.OtherRows.{limitRepeated, overRunEnds, overRunOpen, betweenBands, noDiode, diodeBefore, noLimit, clock, refusedArguments, faultsTold, faultAgain, ventilatedPost, plainPost, otherStates, noBandBetween, callsBetween, limitBack, noPartner, noPartnerDiode, neverSound, noLetter, otherRows}
+use Rattle.rules.specs.OtherRows.{limitRepeated, overRunEnds, overRunOpen, betweenBands, noDiode, diodeBefore, noLimit, clock, refusedArguments, faultsTold, faultAgain, ventilatedPost, plainPost, otherStates, noBandBetween, callsBetween, callsUnderFault, callsInOverRun, limitBack, noPartner, noPartnerDiode, neverSound, noLetter, otherRows}
 use Rattle.rules.specs.Sequences.{Tells, AllTell}
 use Rattle.rules.proofs.Sequences.{tells-by, computed}
 
@@ -68,6 +68,14 @@ calls-between : Tells callsBetween
 unfolding computed
 calls-between = tells-by callsBetween _ refl refl refl refl
 
+calls-under-fault : Tells callsUnderFault
+unfolding computed
+calls-under-fault = tells-by callsUnderFault _ refl refl refl refl
+
+calls-in-over-run : Tells callsInOverRun
+unfolding computed
+calls-in-over-run = tells-by callsInOverRun _ refl refl refl refl
+
 limit-back : Tells limitBack
 unfolding computed
 limit-back = tells-by limitBack _ refl refl refl refl
@@ -90,4 +98,4 @@ no-letter = tells-by noLetter _ refl refl refl refl
 
 pub other-rows : AllTell otherRows
 other-rows =
-    (limit-repeated, (over-run-ends, (over-run-open, (between-bands, (no-diode, (diode-before, (no-limit, (clock-row, (refused-arguments, (faults-told, (fault-again, (ventilated-post, (plain-post, (other-states, (no-band-between, (calls-between, (limit-back, (no-partner, (no-partner-diode, (never-sound, (no-letter, tt)))))))))))))))))))))
+    (limit-repeated, (over-run-ends, (over-run-open, (between-bands, (no-diode, (diode-before, (no-limit, (clock-row, (refused-arguments, (faults-told, (fault-again, (ventilated-post, (plain-post, (other-states, (no-band-between, (calls-between, (calls-under-fault, (calls-in-over-run, (limit-back, (no-partner, (no-partner-diode, (never-sound, (no-letter, tt)))))))))))))))))))))))

@@ -274,6 +274,35 @@ callsBetween =
           ∷ [];
     }
 
+-- only clear drops a fault
+abbrev pub callsUnderFault : Sequence
+callsUnderFault =
+    record {
+      start = at80A 0;
+      first = charging 0 80000;
+      entries =
+          call 50 (fault 5) 0 letterF 0 0 false 5 1
+          ∷ call 51 (limit 80000) 0 letterF 0 0 false 5 1
+          ∷ call 52 (measure 0) 0 letterF 0 0 false 5 1
+          ∷ call 53 tick 0 letterF 0 0 false 5 1
+          ∷ call 54 (steady 6000) 0 letterF 0 0 false 5 1
+          ∷ call 55 clear 0 letterU 0 1000 false 0 1
+          ∷ [];
+    }
+
+-- a limit or a clear leaves an over-run running
+abbrev pub callsInOverRun : Sequence
+callsInOverRun =
+    record {
+      start = at80A 0;
+      first = charging 0 80000 ++ (brief 100 (measure 88001) ∷ brief 105 (limit 80000) ∷ brief 106 clear ∷ every 62 80 110 (swing 6000));
+      entries =
+          call 5060 (swing 6000) 0 bandC 2 960 true 0 1
+          ∷ call 5099 tick 0 bandC 2 960 true 0 1
+          ∷ call 5100 tick 0 letterF 0 0 false 2 1
+          ∷ [];
+    }
+
 -- a limit that comes back ends the stop
 abbrev pub limitBack : Sequence
 limitBack =
@@ -356,6 +385,8 @@ otherRows =
     ∷ otherStates
     ∷ noBandBetween
     ∷ callsBetween
+    ∷ callsUnderFault
+    ∷ callsInOverRun
     ∷ limitBack
     ∷ noPartner
     ∷ noPartnerDiode
