@@ -99,6 +99,12 @@ impl Millis {
         self.0 < later.0
     }
 
+    pub fn not_after(self, other: Millis) -> bool
+        ensures { λ r. ⌜ r ≡ leb (self .0) (other .0) ⌝ }
+    {
+        self.0 <= other.0
+    }
+
     // At `now`, this time lies `span` or more ago. Total: no sum is made that could overflow.
     pub fn at_least_ago(self, span: Millis, now: Millis) -> bool
         ensures { λ r. ⌜ r ≡ leb (self .0 + span .0) (now .0) ⌝ }

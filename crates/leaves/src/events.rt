@@ -1,0 +1,213 @@
+// Step 1 of an accepted call: its event. A call's kind and arguments, and what each kind does.
+use crate::faults::Faults;
+use crate::moments;
+use crate::moments::Moment;
+use crate::samples;
+use crate::samples::Pair;
+use crate::tests;
+use duty::Reading;
+use pilot::verdicts::Verdict;
+use units::Milliamps;
+use units::Millis;
+use window::Weighed;
+ghost use mathlib.Core.Path.{_≡_};
+ghost use mathlib.Core.Bool.{cond};
+ghost use Rattle.duty.specs.Reading.{readingOf};
+ghost use Rattle.duty.specs.Answers.{asReads};
+ghost use Rattle.window.specs.Answers.{asWeighs};
+ghost use Rattle.rules.specs.Calls.{sample, isSample, isFault};
+ghost use Rattle.rules.specs.Pairs.{verdict};
+ghost use Rattle.rules.specs.State.{State, empty, startedBy};
+ghost use Rattle.rules.specs.Step1Event.{settledBy, soundBy, limitBy, faultsBy, currentOf, isOver, overrunAt, overrunBy};
+ghost use Rattle.leaves.specs.Views.{asMoment, asPair, asFaults, asEvent};
+
+// Kind and arguments of a call.
+pub enum Event {
+    Sample(Weighed),
+    // The depot's limit.
+    Limit(Milliamps),
+    // The largest line current.
+    Measure(Milliamps),
+    // A fault's number.
+    Fault(u32),
+    Clear,
+    Tick,
+}
+
+pub fn is_sample(event: Event) -> bool
+    ensures { λ r. ⌜ r ≡ isSample (asEvent event) ⌝ }
+{
+    match event {
+        Event::Sample(_) => true,
+        Event::Limit(_) => false,
+        Event::Measure(_) => false,
+        Event::Fault(_) => false,
+        Event::Clear => false,
+        Event::Tick => false,
+    }
+}
+
+pub fn is_fault(event: Event) -> bool
+    ensures { λ r. ⌜ r ≡ isFault (asEvent event) ⌝ }
+{
+    match event {
+        Event::Sample(_) => false,
+        Event::Limit(_) => false,
+        Event::Measure(_) => false,
+        Event::Fault(_) => true,
+        Event::Clear => false,
+        Event::Tick => false,
+    }
+}
+
+fn judged(window: Weighed, wave: u32, ventilation: bool) -> Verdict
+    ensures { λ r. ⌜ ((s : State) → s .wave ≡ wave → s .settings .ventilation ≡ ventilation → r ≡ verdict s (sample (asWeighs window))) ⌝ }
+{
+    match window {
+        Weighed::Levels { high, low } => pilot::verdicts::judge(wave, high, low, ventilation),
+        Weighed::WrongLength => samples::no_verdict(),
+        Weighed::OutOfRange => samples::no_verdict(),
+        Weighed::Unsupported => samples::no_verdict(),
+    }
+}
+
+// A sample's verdict: its levels, judged by the wave and the ventilation as the call finds them.
+pub fn verdict_of(event: Event, wave: u32, ventilation: bool) -> Verdict
+    ensures { λ r. ⌜ ((s : State) → s .wave ≡ wave → s .settings .ventilation ≡ ventilation → r ≡ verdict s (asEvent event)) ⌝ }
+{
+    match event {
+        Event::Sample(window) => judged(window, wave, ventilation),
+        Event::Limit(_) => samples::no_verdict(),
+        Event::Measure(_) => samples::no_verdict(),
+        Event::Fault(_) => samples::no_verdict(),
+        Event::Clear => samples::no_verdict(),
+        Event::Tick => samples::no_verdict(),
+    }
+}
+
+fn letter_if(first: bool, a: u8, b: u8) -> u8
+    ensures { λ r. ⌜ r ≡ cond first a b ⌝ }
+{
+    if first { a } else { b }
+}
+
+// Settling: by a pair in one band.
+pub fn settled_by(pair: Pair, settled: u8) -> u8
+    ensures { λ r. ⌜ r ≡ settledBy (asPair pair) settled ⌝ }
+{
+    let in_one = pair.in_one_band();
+    letter_if(in_one, pair.this.band, settled)
+}
+
+// The time of the last sound sample.
+pub fn sound_by(now: Millis, pair: Pair, sound: Moment) -> Moment
+    ensures { λ r. ⌜ asMoment r ≡ soundBy (now .0) (asPair pair) (asMoment sound) ⌝ }
+{
+    let is_sound = tests::both(pair.sampled, pair.this.sound);
+    let here = Moment::set_to(now);
+    moments::pick(is_sound, here, sound)
+}
+
+// Limit stored.
+pub fn limit_by(event: Event, stored: Milliamps) -> Milliamps
+    ensures { λ r. ⌜ r .0 ≡ limitBy (asEvent event) (stored .0) ⌝ }
+{
+    match event {
+        Event::Sample(_) => stored,
+        Event::Limit(given) => given,
+        Event::Measure(_) => stored,
+        Event::Fault(_) => stored,
+        Event::Clear => stored,
+        Event::Tick => stored,
+    }
+}
+
+// Latching by a fault call, and clear.
+pub fn faults_by(event: Event, faults: Faults) -> Faults
+    ensures { λ r. ⌜ asFaults r ≡ faultsBy (asEvent event) (asFaults faults) ⌝ }
+{
+    match event {
+        Event::Sample(_) => faults,
+        Event::Limit(_) => faults,
+        Event::Measure(_) => faults,
+        Event::Fault(kind) => faults.with_kind(kind),
+        Event::Clear => Faults::none(),
+        Event::Tick => faults,
+    }
+}
+
+// The current that a reading tells; 0 where it tells none.
+fn current_of(reading: Reading) -> Milliamps
+    ensures { λ r. ⌜ r .0 ≡ currentOf (asReads reading) ⌝ }
+{
+    match reading {
+        Reading::NoCharging => Milliamps(0),
+        Reading::DigitalOnly => Milliamps(0),
+        Reading::Current(milliamps) => milliamps,
+        Reading::AboveScale => Milliamps(0),
+    }
+}
+
+// More than a tenth above what is announced.
+fn is_over(line: Milliamps, allowed: Milliamps) -> bool
+    ensures { λ r. ⌜ r ≡ isOver (line .0) (allowed .0) ⌝ }
+{
+    let most = 11 * (allowed.0 as u64);
+    let drawn = 10 * (line.0 as u64);
+    most < drawn
+}
+
+// A measure under a driven wave of a closed contactor: the over-run starts unless it runs, or it ends.
+fn overrun_at(now: Millis, line: Milliamps, wave: u32, overrun: Moment) -> Moment
+    ensures { λ r. ⌜ asMoment r ≡ cond (isOver (line .0) (currentOf (readingOf wave))) (startedBy (now .0) (asMoment overrun)) empty ⌝ }
+{
+    let reading = duty::reading_of(wave);
+    let allowed = current_of(reading);
+    let over = is_over(line, allowed);
+    let runs = overrun.started_by(now);
+    let none = Moment::empty();
+    moments::pick(over, runs, none)
+}
+
+// The reading is asked only where the measure is judged.
+fn judged_over(judges: bool, now: Millis, line: Milliamps, wave: u32, overrun: Moment) -> Moment
+    ensures { λ r. ⌜
+        asMoment r
+        ≡ cond judges (cond (isOver (line .0) (currentOf (readingOf wave))) (startedBy (now .0) (asMoment overrun)) empty) (asMoment overrun)
+        ⌝ }
+{
+    if judges {
+        overrun_at(now, line, wave, overrun)
+    } else {
+        overrun
+    }
+}
+
+// A measure is judged where the contactor is closed and the wave driven.
+fn measured(now: Millis, line: Milliamps, closed: bool, wave: u32, overrun: Moment) -> Moment
+    ensures { λ r. ⌜
+        ((s : State) → s .closed ≡ closed → s .wave ≡ wave → s .overrun ≡ asMoment overrun
+        → asMoment r ≡ overrunAt (now .0) (line .0) s)
+        ⌝ }
+{
+    let driven = units::driven(wave);
+    let judges = tests::both(closed, driven);
+    judged_over(judges, now, line, wave, overrun)
+}
+
+// The over-run after the event: only a measure starts or ends it here.
+pub fn overrun_by(now: Millis, event: Event, closed: bool, wave: u32, overrun: Moment) -> Moment
+    ensures { λ r. ⌜
+        ((s : State) → s .closed ≡ closed → s .wave ≡ wave → s .overrun ≡ asMoment overrun
+        → asMoment r ≡ overrunBy (now .0) (asEvent event) s)
+        ⌝ }
+{
+    match event {
+        Event::Sample(_) => overrun,
+        Event::Limit(_) => overrun,
+        Event::Measure(line) => measured(now, line, closed, wave, overrun),
+        Event::Fault(_) => overrun,
+        Event::Clear => overrun,
+        Event::Tick => overrun,
+    }
+}

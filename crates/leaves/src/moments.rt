@@ -1,0 +1,90 @@
+// Times and starts that may be empty: the last sound sample, the last opening, the over-run, the stop.
+use units::Millis;
+ghost use mathlib.Core.Path.{_≡_};
+ghost use mathlib.Core.Bool.{true, cond};
+ghost use Prim.Native.Nat.{_+_};
+ghost use lib.Dec.{leb, ltb};
+ghost use Rattle.rules.specs.State.{empty, setTo, startedBy};
+ghost use Rattle.rules.specs.Step2Latches.{ranFor};
+ghost use Rattle.rules.specs.Lent.{storedAllowed};
+ghost use Rattle.leaves.specs.Views.{asMoment};
+
+// A time that is set, or none. The number of an empty one says nothing.
+#[repr(C)]
+pub struct Moment {
+    pub set: bool,
+    pub time: Millis,
+}
+
+impl Moment {
+    pub fn empty() -> Moment
+        ensures { λ r. ⌜ asMoment r ≡ empty ⌝ }
+    {
+        Moment {
+            set: false,
+            time: Millis(0),
+        }
+    }
+
+    pub fn set_to(now: Millis) -> Moment
+        ensures { λ r. ⌜ asMoment r ≡ setTo (now .0) ⌝ }
+    {
+        Moment {
+            set: true,
+            time: now,
+        }
+    }
+
+    // Starts now, unless it runs already.
+    pub fn started_by(self, now: Millis) -> Moment
+        ensures { λ r. ⌜ asMoment r ≡ startedBy (now .0) (asMoment self) ⌝ }
+    {
+        if self.set {
+            self
+        } else {
+            Moment {
+                set: true,
+                time: now,
+            }
+        }
+    }
+
+    // It runs, and began that long ago or longer.
+    pub fn ran_for(self, span: Millis, now: Millis) -> bool
+        ensures { λ r. ⌜ r ≡ ranFor (span .0) (now .0) (asMoment self) ⌝ }
+    {
+        let ago = self.time.at_least_ago(span, now);
+        self.set && ago
+    }
+
+    // No such time yet, or it lies that long ago or longer.
+    pub fn none_within(self, span: Millis, now: Millis) -> bool
+        ensures { λ r. ⌜ r ≡ cond (self .set) (leb (self .time .0 + span .0) (now .0)) true ⌝ }
+    {
+        let ago = self.time.at_least_ago(span, now);
+        if self.set { ago } else { true }
+    }
+
+    // No such time yet, or it lies longer ago than that.
+    pub fn none_since(self, span: Millis, now: Millis) -> bool
+        ensures { λ r. ⌜ r ≡ cond (self .set) (ltb (self .time .0 + span .0) (now .0)) true ⌝ }
+    {
+        let ago = self.time.more_than_ago(span, now);
+        if self.set { ago } else { true }
+    }
+
+    // Not above the last accepted time; an empty one is no stored time.
+    pub fn stored_allowed(self, last: Millis) -> bool
+        ensures { λ r. ⌜ r ≡ storedAllowed (last .0) (asMoment self) ⌝ }
+    {
+        let not_above = self.time.not_after(last);
+        if self.set { not_above } else { true }
+    }
+}
+
+// The first if told so, else the second.
+pub fn pick(first: bool, a: Moment, b: Moment) -> Moment
+    ensures { λ r. ⌜ asMoment r ≡ cond first (asMoment a) (asMoment b) ⌝ }
+{
+    if first { a } else { b }
+}

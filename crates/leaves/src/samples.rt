@@ -1,0 +1,100 @@
+// This and the previous sample: two successive accepted samples with nothing forgotten between them.
+use crate::tests;
+use pilot::verdicts::Verdict;
+ghost use mathlib.Core.Path.{_≡_};
+ghost use mathlib.Core.Bool.{cond};
+ghost use Rattle.rules.specs.State.{noVerdict, forgotten};
+ghost use Rattle.rules.specs.Pairs.{paired, sameBand, inOneBand, bothProven, bothDiodeBad, bothUnsound};
+ghost use Rattle.leaves.specs.Views.{asPrevious, asPair};
+
+// The previous sample with its verdict, or none.
+#[repr(C)]
+pub struct Previous {
+    pub kept: bool,
+    pub verdict: Verdict,
+}
+
+// A call's own verdict, and the previous sample as the call finds it.
+pub struct Pair {
+    pub sampled: bool,
+    pub this: Verdict,
+    pub previous: Previous,
+}
+
+// The verdict of a call that is no sample.
+pub fn no_verdict() -> Verdict
+    ensures { λ r. ⌜ r ≡ noVerdict ⌝ }
+{
+    Verdict {
+        band: 0,
+        sound: false,
+        proven: false,
+        diodebad: false,
+    }
+}
+
+// No previous sample.
+pub fn forgotten() -> Previous
+    ensures { λ r. ⌜ asPrevious r ≡ forgotten ⌝ }
+{
+    let verdict = no_verdict();
+    Previous {
+        kept: false,
+        verdict: verdict,
+    }
+}
+
+// The first if told so, else the second.
+pub fn pick(first: bool, a: Previous, b: Previous) -> Previous
+    ensures { λ r. ⌜ asPrevious r ≡ cond first (asPrevious a) (asPrevious b) ⌝ }
+{
+    if first { a } else { b }
+}
+
+// Two samples without a band are not in one.
+fn same_band(a: u8, b: u8) -> bool
+    ensures { λ r. ⌜ r ≡ sameBand a b ⌝ }
+{
+    let none = a == 0;
+    let same = a == b;
+    tests::both(!none, same)
+}
+
+impl Pair {
+    // A sample call with a partner.
+    fn paired(self) -> bool
+        ensures { λ r. ⌜ r ≡ paired (asPair self) ⌝ }
+    {
+        tests::both(self.sampled, self.previous.kept)
+    }
+
+    pub fn in_one_band(self) -> bool
+        ensures { λ r. ⌜ r ≡ inOneBand (asPair self) ⌝ }
+    {
+        let paired = self.paired();
+        let same = same_band(self.previous.verdict.band, self.this.band);
+        tests::both(paired, same)
+    }
+
+    // Both proven in the same band.
+    pub fn both_proven(self) -> bool
+        ensures { λ r. ⌜ r ≡ bothProven (asPair self) ⌝ }
+    {
+        let in_one = self.in_one_band();
+        tests::all(in_one, self.previous.verdict.proven, self.this.proven)
+    }
+
+    pub fn both_diode_bad(self) -> bool
+        ensures { λ r. ⌜ r ≡ bothDiodeBad (asPair self) ⌝ }
+    {
+        let paired = self.paired();
+        tests::all(paired, self.previous.verdict.diodebad, self.this.diodebad)
+    }
+
+    pub fn both_unsound(self) -> bool
+        ensures { λ r. ⌜ r ≡ bothUnsound (asPair self) ⌝ }
+    {
+        let paired = self.paired();
+        tests::neither(paired, self.previous.verdict.sound, self.this.sound)
+    }
+}

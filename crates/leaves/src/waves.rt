@@ -1,0 +1,121 @@
+// Step 3 of an accepted call: the wave, and what follows from it for the over-run and the stop.
+use crate::moments;
+use crate::moments::Moment;
+use crate::tests;
+use duty::Greatest;
+use units::Milliamps;
+use units::Millis;
+ghost use mathlib.Core.Path.{_≡_};
+ghost use mathlib.Core.Bool.{_&&_, _||_, not, cond};
+ghost use lib.Dec.{eqb, ltb};
+ghost use Rattle.pilot.specs.Bands.{bandD};
+ghost use Rattle.duty.specs.Answers.{asSends};
+ghost use Rattle.duty.specs.DutyFor.{dutyFor};
+ghost use Rattle.rules.specs.Step3Wave.{steadyLow, steadyHigh, isLetter, isUAE, sent, overrunUnder, stopUnder};
+ghost use Rattle.leaves.specs.Views.{asMoment};
+
+// One of A to E.
+pub fn is_letter(settled: u8) -> bool
+    ensures { λ r. ⌜ r ≡ isLetter settled ⌝ }
+{
+    let not_below = b'A' <= settled;
+    let not_above = settled <= b'E';
+    tests::both(not_below, not_above)
+}
+
+// Settled U, A or E.
+fn is_u_a_or_e(settled: u8) -> bool
+    ensures { λ r. ⌜ r ≡ isUAE settled ⌝ }
+{
+    let letter = is_letter(settled);
+    let a = settled == b'A';
+    let e = settled == b'E';
+    tests::any_of(!letter, a, e)
+}
+
+// Settled D without ventilation.
+pub fn unventilated_d(settled: u8, ventilation: bool) -> bool
+    ensures { λ r. ⌜ r ≡ eqb settled bandD && not ventilation ⌝ }
+{
+    let d = settled == b'D';
+    tests::both(d, !ventilation)
+}
+
+// No duty is sent, though there is no fault.
+fn held_high(available: Milliamps, settled: u8, ventilation: bool) -> bool
+    ensures { λ r. ⌜ r ≡ ltb (available .0) 6000 || (isUAE settled || (eqb settled bandD && not ventilation)) ⌝ }
+{
+    let too_low = available.below(Milliamps(6000));
+    let idle = is_u_a_or_e(settled);
+    let unventilated = unventilated_d(settled, ventilation);
+    tests::any_of(too_low, idle, unventilated)
+}
+
+// The duty that is sent; where there is none the wave stays high.
+fn sent(greatest: Greatest) -> u32
+    ensures { λ r. ⌜ r ≡ sent (asSends greatest) ⌝ }
+{
+    match greatest {
+        Greatest::Duty(d) => d,
+        Greatest::TooLow => 1000,
+    }
+}
+
+fn sent_for(available: Milliamps) -> u32
+    ensures { λ r. ⌜ r ≡ sent (dutyFor (available .0)) ⌝ }
+{
+    let greatest = duty::duty_for(available);
+    sent(greatest)
+}
+
+fn wave_by(faulted: bool, high: bool, duty: u32) -> u32
+    ensures { λ r. ⌜ r ≡ cond faulted steadyLow (cond high steadyHigh duty) ⌝ }
+{
+    if faulted {
+        0
+    } else if high {
+        1000
+    } else {
+        duty
+    }
+}
+
+// The wave of a post: steady -12 V with a fault, steady +12 V where no duty is sent, else the duty.
+pub fn wave_for(faulted: bool, available: Milliamps, settled: u8, ventilation: bool) -> u32
+    ensures { λ r. ⌜
+        r ≡ cond faulted steadyLow
+        (cond (ltb (available .0) 6000 || (isUAE settled || (eqb settled bandD && not ventilation))) steadyHigh (sent (dutyFor (available .0))))
+        ⌝ }
+{
+    let high = held_high(available, settled, ventilation);
+    let duty = sent_for(available);
+    wave_by(faulted, high, duty)
+}
+
+// An over-run ends where the wave is not driven.
+pub fn overrun_under(wave: u32, overrun: Moment) -> Moment
+    ensures { λ r. ⌜ asMoment r ≡ overrunUnder wave (asMoment overrun) ⌝ }
+{
+    let driven = units::driven(wave);
+    let none = Moment::empty();
+    moments::pick(driven, overrun, none)
+}
+
+fn is_high(wave: u32) -> bool
+    ensures { λ r. ⌜ r ≡ eqb wave steadyHigh ⌝ }
+{
+    wave == 1000
+}
+
+// A stop starts where the contactor is closed and the wave high, and ends where the wave is driven.
+pub fn stop_under(now: Millis, wave: u32, closed: bool, stop: Moment) -> Moment
+    ensures { λ r. ⌜ asMoment r ≡ stopUnder (now .0) wave closed (asMoment stop) ⌝ }
+{
+    let high = is_high(wave);
+    let driven = units::driven(wave);
+    let none = Moment::empty();
+    let unless_driven = moments::pick(driven, none, stop);
+    let runs = stop.started_by(now);
+    let starts = tests::both(closed, high);
+    moments::pick(starts, runs, unless_driven)
+}
