@@ -85,7 +85,7 @@ pub fn verdict_of(event: Event, wave: u32, ventilation: bool) -> Verdict
     }
 }
 
-fn letter_if(first: bool, a: u8, b: u8) -> u8
+pub fn letter_if(first: bool, a: u8, b: u8) -> u8
     ensures { λ r. ⌜ r ≡ cond first a b ⌝ }
 {
     if first { a } else { b }

@@ -1,4 +1,5 @@
 // The latched faults.
+use crate::tests;
 ghost use mathlib.Core.Path.{_≡_};
 ghost use mathlib.Core.Bool.{_||_};
 ghost use lib.Dec.{eqb};
@@ -64,6 +65,30 @@ impl Faults {
             residual: residual,
             welded: welded,
             temperature: temperature,
+        }
+    }
+
+    // With 1 (no diode) and 2 (over-current) as they latch.
+    pub fn with_latches(self, diode: bool, overcurrent: bool) -> Faults
+        ensures { λ r. ⌜
+            asFaults r
+            ≡ record {
+              diode = self .diode || diode;
+              overcurrent = self .overcurrent || overcurrent;
+              residual = self .residual;
+              welded = self .welded;
+              temperature = self .temperature;
+            }
+            ⌝ }
+    {
+        let one = tests::either(self.diode, diode);
+        let two = tests::either(self.overcurrent, overcurrent);
+        Faults {
+            diode: one,
+            overcurrent: two,
+            residual: self.residual,
+            welded: self.welded,
+            temperature: self.temperature,
         }
     }
 

@@ -1,4 +1,5 @@
 // The parts of the controller: the structs that it is made of, and the tests and choices of each step on plain values.
+pub mod counts; // the count of closings
 pub mod events; // the calls' kinds and arguments; step 1
 pub mod faults; // the latched faults; step 2
 pub mod moments; // times and starts that may be empty

@@ -2,7 +2,7 @@
 use crate::tests;
 use pilot::verdicts::Verdict;
 ghost use mathlib.Core.Path.{_≡_};
-ghost use mathlib.Core.Bool.{cond};
+ghost use mathlib.Core.Bool.{true, cond};
 ghost use Rattle.rules.specs.State.{noVerdict, forgotten};
 ghost use Rattle.rules.specs.Pairs.{paired, sameBand, inOneBand, bothProven, bothDiodeBad, bothUnsound};
 ghost use Rattle.leaves.specs.Views.{asPrevious, asPair};
@@ -40,6 +40,16 @@ pub fn forgotten() -> Previous
     let verdict = no_verdict();
     Previous {
         kept: false,
+        verdict: verdict,
+    }
+}
+
+// A sample that becomes the previous one.
+pub fn kept_sample(verdict: Verdict) -> Previous
+    ensures { λ r. ⌜ asPrevious r ≡ record { kept = true; verdict = verdict } ⌝ }
+{
+    Previous {
+        kept: true,
         verdict: verdict,
     }
 }

@@ -8,6 +8,12 @@ pub fn both(a: bool, b: bool) -> bool
     a && b
 }
 
+pub fn either(a: bool, b: bool) -> bool
+    ensures { λ r. ⌜ r ≡ a || b ⌝ }
+{
+    a || b
+}
+
 pub fn all(a: bool, b: bool, c: bool) -> bool
     ensures { λ r. ⌜ r ≡ a && (b && c) ⌝ }
 {

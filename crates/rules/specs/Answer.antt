@@ -1,9 +1,10 @@
 -- What a call answers to any lent controller: the controller after it, and the reply.
-use mathlib.Core.Bool.{cond}
+use mathlib.Core.Bool.{false, cond}
 use mathlib.Core.List.{List}
+use Prim.Native.Nat.{ℕ}
 use lib.Dec.{eqb}
 use Rattle.rules.specs.Accepted.{accept, closesAt}
-use Rattle.rules.specs.Begin.{Begin, fresh}
+use Rattle.rules.specs.Begin.{Begin, beginRefusal, fresh}
 use Rattle.rules.specs.Calls.{Call, Heard, inTurn}
 use Rattle.rules.specs.Lent.{Lent, lentRefusal}
 use Rattle.rules.specs.Reply.{Reply, shown}
@@ -25,6 +26,25 @@ next lent call = cond (eqb (lentRefusal lent call) 0) (acceptLent lent call) len
 -- the reply; a refusal number stands beside the rest as the lent controller has it
 abbrev pub replyTo : Lent → Heard → Reply
 replyTo lent call = shown (lentRefusal lent call) (next lent call)
+
+-- what a call hands back, whole
+pub record Answer : Type 0 where
+  pub lent : Lent
+  pub reply : Reply
+
+abbrev pub answerTo : Lent → Heard → Answer
+answerTo lent call = record { lent = next lent call; reply = replyTo lent call }
+
+-- a refusal that comes alone: zeros beside the number
+abbrev pub alone : ℕ → Reply
+alone number = record { refusal = number; letter = 0; digit = 0; wave = 0; closed = false; fault = 0; closings = 0 }
+
+-- begin, lent any controller: accepted, the fresh one and what is shown of it; refused, the lent one, and the number alone
+unfoldable pub answerToBegin : Lent → Begin → Answer
+answerToBegin lent begin =
+    cond (eqb (beginRefusal begin) 0)
+    (record { lent = begun begin; reply = shown 0 (begun begin) })
+    (record { lent = lent; reply = alone (beginRefusal begin) })
 
 -- one controller, lent from call to call
 abbrev pub lentAfter : Lent → List Call → Lent

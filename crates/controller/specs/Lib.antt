@@ -1,0 +1,2 @@
+-- The controller in the terms of crate rules.
+pub mod View

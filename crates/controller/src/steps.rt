@@ -1,0 +1,165 @@
+// The steps of an accepted call. Each takes the controller and hands the next one back.
+use crate::Controller;
+use leaves::counts;
+use leaves::events;
+use leaves::events::Event;
+use leaves::moments;
+use leaves::moments::Moment;
+use leaves::samples;
+use leaves::samples::Pair;
+use leaves::tests;
+use leaves::waves;
+use units::Millis;
+ghost use mathlib.Core.Path.{_≡_};
+ghost use Rattle.rules.specs.Accepted.{stepEnd};
+ghost use Rattle.rules.specs.Step1Event.{stepEvent};
+ghost use Rattle.rules.specs.Step2Latches.{unsettles, stepLatch};
+ghost use Rattle.rules.specs.Step3Wave.{stepWave};
+ghost use Rattle.rules.specs.Step4Opening.{cause, opens, stepOpening};
+ghost use Rattle.rules.specs.Step5Closing.{closes, stepClosing};
+ghost use Rattle.leaves.specs.Counted.{counted};
+ghost use Rattle.leaves.specs.Views.{asEvent, asPair};
+ghost use Rattle.controller.specs.View.{kept, view};
+
+impl Controller {
+    // Step 1: its event.
+    pub fn event(mut self, now: Millis, event: Event, pair: Pair) -> Controller
+        ensures { λ r. ⌜ view r ≡ record { kept = stepEvent (now .0) (asEvent event) (asPair pair) (kept self); closings = self .closings } ⌝ }
+    {
+        let limit = events::limit_by(event, self.limit);
+        let settled = events::settled_by(pair, self.settled);
+        let faults = events::faults_by(event, self.faults);
+        let sound = events::sound_by(now, pair, self.sound);
+        let overrun = events::overrun_by(now, event, self.closed, self.wave, self.overrun);
+        self.limit = limit;
+        self.settled = settled;
+        self.faults = faults;
+        self.sound = sound;
+        self.overrun = overrun;
+        self
+    }
+
+    // Something latches, or a latched fault is told again.
+    pub fn unsettles(self, faultcall: bool, now: Millis, pair: Pair) -> bool
+        ensures { λ r. ⌜ r ≡ unsettles faultcall (now .0) (asPair pair) (kept self) ⌝ }
+    {
+        let diode = pair.both_diode_bad();
+        let over = self.overrun.ran_for(Millis(5000), now);
+        tests::any_of(faultcall, diode, over)
+    }
+
+    // Step 2: latches.
+    pub fn latch(mut self, faultcall: bool, now: Millis, pair: Pair) -> Controller
+        ensures { λ r. ⌜ view r ≡ record { kept = stepLatch faultcall (now .0) (asPair pair) (kept self); closings = self .closings } ⌝ }
+    {
+        let unsettles = self.unsettles(faultcall, now, pair);
+        let settled = events::letter_if(unsettles, 0, self.settled);
+        let none = samples::forgotten();
+        let previous = samples::pick(unsettles, none, self.previous);
+        let diode = pair.both_diode_bad();
+        let over = self.overrun.ran_for(Millis(5000), now);
+        let faults = self.faults.with_latches(diode, over);
+        self.settled = settled;
+        self.faults = faults;
+        self.previous = previous;
+        self
+    }
+
+    // Step 3: the wave, and the stop that follows from it.
+    pub fn wave(mut self, now: Millis) -> Controller
+        ensures { λ r. ⌜ view r ≡ record { kept = stepWave (now .0) (kept self); closings = self .closings } ⌝ }
+    {
+        let faulted = self.faults.any();
+        let available = self.settings.rated.lesser(self.limit);
+        let wave = waves::wave_for(faulted, available, self.settled, self.settings.ventilation);
+        let overrun = waves::overrun_under(wave, self.overrun);
+        let stop = waves::stop_under(now, wave, self.closed, self.stop);
+        self.wave = wave;
+        self.overrun = overrun;
+        self.stop = stop;
+        self
+    }
+
+    // An opening cause holds: i, ii, iii, iv or v.
+    pub fn cause(self, now: Millis, pair: Pair) -> bool
+        ensures { λ r. ⌜ r ≡ cause (now .0) (asPair pair) (kept self) ⌝ }
+    {
+        let one = pair.both_unsound();
+        let two = self.sound.none_since(Millis(80), now);
+        let three = waves::unventilated_d(self.settled, self.settings.ventilation);
+        let four = self.stop.ran_for(Millis(3000), now);
+        let five = self.faults.any();
+        let last_three = tests::any_of(three, four, five);
+        tests::any_of(one, two, last_three)
+    }
+
+    // This call opens the contactor.
+    pub fn opens(self, now: Millis, pair: Pair) -> bool
+        ensures { λ r. ⌜ r ≡ opens (now .0) (asPair pair) (kept self) ⌝ }
+    {
+        let holds = self.cause(now, pair);
+        tests::both(self.closed, holds)
+    }
+
+    // Step 4: opening.
+    pub fn opening(mut self, now: Millis, pair: Pair) -> Controller
+        ensures { λ r. ⌜ view r ≡ record { kept = stepOpening (now .0) (asPair pair) (kept self); closings = self .closings } ⌝ }
+    {
+        let opens = self.opens(now, pair);
+        let closed = tests::both(self.closed, !opens);
+        let here = Moment::set_to(now);
+        let empty = Moment::empty();
+        let none = samples::forgotten();
+        let opening = moments::pick(opens, here, self.opening);
+        let overrun = moments::pick(opens, empty, self.overrun);
+        let stop = moments::pick(opens, empty, self.stop);
+        let previous = samples::pick(opens, none, self.previous);
+        self.closed = closed;
+        self.opening = opening;
+        self.overrun = overrun;
+        self.stop = stop;
+        self.previous = previous;
+        self
+    }
+
+    // Every closing condition is met.
+    pub fn closes(self, opened: bool, now: Millis, pair: Pair) -> bool
+        ensures { λ r. ⌜ r ≡ closes opened (now .0) (asPair pair) (kept self) ⌝ }
+    {
+        let driven = units::driven(self.wave);
+        let proven = pair.both_proven();
+        let rested = self.opening.none_within(self.settings.pause, now);
+        let ready = tests::all(driven, proven, rested);
+        tests::all(!self.closed, !opened, ready)
+    }
+
+    // Step 5: closing.
+    pub fn closing(mut self, opened: bool, now: Millis, pair: Pair) -> Controller
+        ensures { λ r. ⌜
+            view r
+            ≡ record {
+              kept = stepClosing opened (now .0) (asPair pair) (kept self);
+              closings = counted (closes opened (now .0) (asPair pair) (kept self)) (self .closings);
+            }
+            ⌝ }
+    {
+        let closes = self.closes(opened, now, pair);
+        let closed = tests::either(self.closed, closes);
+        let closings = counts::counted(closes, self.closings);
+        self.closed = closed;
+        self.closings = closings;
+        self
+    }
+
+    // The end of a call: its time stays, and so does its sample, unless the call forgot.
+    pub fn end(mut self, forgot: bool, now: Millis, pair: Pair) -> Controller
+        ensures { λ r. ⌜ view r ≡ record { kept = stepEnd forgot (now .0) (asPair pair) (kept self); closings = self .closings } ⌝ }
+    {
+        let keeps = tests::both(pair.sampled, !forgot);
+        let this = samples::kept_sample(pair.this);
+        let previous = samples::pick(keeps, this, self.previous);
+        self.last = now;
+        self.previous = previous;
+        self
+    }
+}
