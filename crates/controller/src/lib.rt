@@ -1,11 +1,20 @@
 // The control pilot controller of a charging post: one struct, its five steps, and the calls.
+use leaves::events::Event;
 use leaves::faults::Faults;
 use leaves::moments::Moment;
+use leaves::replies::Reply;
 use leaves::samples::Previous;
 use leaves::settings::Settings;
 use units::Milliamps;
 use units::Millis;
+ghost use Rattle.rules.specs.Calls.{sample, limit, measure, fault, clear, tick};
+ghost use Rattle.controller.specs.Answers.{Answers, Begins};
 
+mod accepted; // accepted.rt: the steps in their order
+mod answered; // answered.rt: what a call hands back
+mod begun; // begun.rt: begin
+mod refused; // refused.rt: what a call is refused for
+mod shown; // shown.rt: the reply
 mod steps; // steps.rt: the steps of an accepted call
 
 // What the host keeps, and lends to each call.
@@ -32,4 +41,67 @@ pub struct Controller {
     pub previous: Previous,
     // How often the contactor has closed since begin.
     pub closings: u32,
+}
+
+// What a call hands back: the controller after it, and the reply.
+#[repr(C)]
+pub struct Answer {
+    pub controller: Controller,
+    pub reply: Reply,
+}
+
+// Begin makes a fresh controller. Where it is refused the lent one stays, and the refusal comes alone.
+// A pause of 0 means 3,000.
+pub fn begin(c: Controller, time: u64, rated: u32, pause: u64, ventilation: bool) -> Answer
+    ensures { λ r. ⌜ Begins (record { time = time; rated = rated; pause = pause; ventilation = ventilation }) c (r .reply) (r .controller) ⌝ }
+{
+    let given = Settings {
+        rated: Milliamps(rated),
+        pause: Millis(pause),
+        ventilation: ventilation,
+    };
+    c.begin(Millis(time), given)
+}
+
+// A window of readings of the control pilot, in millivolts.
+pub fn sample(c: Controller, time: u64, window: &[i32]) -> Answer
+    ensures { λ r. ⌜ Answers (record { time = time; event = sample (now (window .entry)) }) c (r .reply) (r .controller) ⌝ }
+{
+    let weighed = window::weigh(window);
+    c.answer(Millis(time), Event::Sample(weighed))
+}
+
+// The depot's limit, in milliamps.
+pub fn limit(c: Controller, time: u64, current: u32) -> Answer
+    ensures { λ r. ⌜ Answers (record { time = time; event = limit current }) c (r .reply) (r .controller) ⌝ }
+{
+    c.answer(Millis(time), Event::Limit(Milliamps(current)))
+}
+
+// The largest line current, in milliamps.
+pub fn measure(c: Controller, time: u64, current: u32) -> Answer
+    ensures { λ r. ⌜ Answers (record { time = time; event = measure current }) c (r .reply) (r .controller) ⌝ }
+{
+    c.answer(Millis(time), Event::Measure(Milliamps(current)))
+}
+
+// A fault from outside: 3 residual current, 4 welded contact, 5 over-temperature.
+pub fn fault(c: Controller, time: u64, kind: u32) -> Answer
+    ensures { λ r. ⌜ Answers (record { time = time; event = fault kind }) c (r .reply) (r .controller) ⌝ }
+{
+    c.answer(Millis(time), Event::Fault(kind))
+}
+
+// Drops every latched fault.
+pub fn clear(c: Controller, time: u64) -> Answer
+    ensures { λ r. ⌜ Answers (record { time = time; event = clear }) c (r .reply) (r .controller) ⌝ }
+{
+    c.answer(Millis(time), Event::Clear)
+}
+
+// The time, and nothing else.
+pub fn tick(c: Controller, time: u64) -> Answer
+    ensures { λ r. ⌜ Answers (record { time = time; event = tick }) c (r .reply) (r .controller) ⌝ }
+{
+    c.answer(Millis(time), Event::Tick)
 }

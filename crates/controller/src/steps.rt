@@ -16,15 +16,14 @@ ghost use Rattle.rules.specs.Step1Event.{stepEvent};
 ghost use Rattle.rules.specs.Step2Latches.{unsettles, stepLatch};
 ghost use Rattle.rules.specs.Step3Wave.{stepWave};
 ghost use Rattle.rules.specs.Step4Opening.{cause, opens, stepOpening};
-ghost use Rattle.rules.specs.Step5Closing.{closes, stepClosing};
-ghost use Rattle.leaves.specs.Counted.{counted};
+ghost use Rattle.rules.specs.Step5Closing.{closes};
 ghost use Rattle.leaves.specs.Views.{asEvent, asPair};
-ghost use Rattle.controller.specs.View.{kept, view};
+ghost use Rattle.controller.specs.View.{kept, view, onKept, onClosing};
 
 impl Controller {
     // Step 1: its event.
     pub fn event(mut self, now: Millis, event: Event, pair: Pair) -> Controller
-        ensures { λ r. ⌜ view r ≡ record { kept = stepEvent (now .0) (asEvent event) (asPair pair) (kept self); closings = self .closings } ⌝ }
+        ensures { λ r. ⌜ view r ≡ onKept (stepEvent (now .0) (asEvent event) (asPair pair)) (view self) ⌝ }
     {
         let limit = events::limit_by(event, self.limit);
         let settled = events::settled_by(pair, self.settled);
@@ -50,7 +49,7 @@ impl Controller {
 
     // Step 2: latches.
     pub fn latch(mut self, faultcall: bool, now: Millis, pair: Pair) -> Controller
-        ensures { λ r. ⌜ view r ≡ record { kept = stepLatch faultcall (now .0) (asPair pair) (kept self); closings = self .closings } ⌝ }
+        ensures { λ r. ⌜ view r ≡ onKept (stepLatch faultcall (now .0) (asPair pair)) (view self) ⌝ }
     {
         let unsettles = self.unsettles(faultcall, now, pair);
         let settled = events::letter_if(unsettles, 0, self.settled);
@@ -67,7 +66,7 @@ impl Controller {
 
     // Step 3: the wave, and the stop that follows from it.
     pub fn wave(mut self, now: Millis) -> Controller
-        ensures { λ r. ⌜ view r ≡ record { kept = stepWave (now .0) (kept self); closings = self .closings } ⌝ }
+        ensures { λ r. ⌜ view r ≡ onKept (stepWave (now .0)) (view self) ⌝ }
     {
         let faulted = self.faults.any();
         let available = self.settings.rated.lesser(self.limit);
@@ -103,7 +102,7 @@ impl Controller {
 
     // Step 4: opening.
     pub fn opening(mut self, now: Millis, pair: Pair) -> Controller
-        ensures { λ r. ⌜ view r ≡ record { kept = stepOpening (now .0) (asPair pair) (kept self); closings = self .closings } ⌝ }
+        ensures { λ r. ⌜ view r ≡ onKept (stepOpening (now .0) (asPair pair)) (view self) ⌝ }
     {
         let opens = self.opens(now, pair);
         let closed = tests::both(self.closed, !opens);
@@ -135,13 +134,7 @@ impl Controller {
 
     // Step 5: closing.
     pub fn closing(mut self, opened: bool, now: Millis, pair: Pair) -> Controller
-        ensures { λ r. ⌜
-            view r
-            ≡ record {
-              kept = stepClosing opened (now .0) (asPair pair) (kept self);
-              closings = counted (closes opened (now .0) (asPair pair) (kept self)) (self .closings);
-            }
-            ⌝ }
+        ensures { λ r. ⌜ view r ≡ onClosing opened (now .0) (asPair pair) (view self) ⌝ }
     {
         let closes = self.closes(opened, now, pair);
         let closed = tests::either(self.closed, closes);
@@ -153,7 +146,7 @@ impl Controller {
 
     // The end of a call: its time stays, and so does its sample, unless the call forgot.
     pub fn end(mut self, forgot: bool, now: Millis, pair: Pair) -> Controller
-        ensures { λ r. ⌜ view r ≡ record { kept = stepEnd forgot (now .0) (asPair pair) (kept self); closings = self .closings } ⌝ }
+        ensures { λ r. ⌜ view r ≡ onKept (stepEnd forgot (now .0) (asPair pair)) (view self) ⌝ }
     {
         let keeps = tests::both(pair.sampled, !forgot);
         let this = samples::kept_sample(pair.this);

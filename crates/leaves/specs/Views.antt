@@ -1,6 +1,8 @@
 -- What the structs and the enum of this crate stand for in the definitions of crate rules. Field by field, so nothing is lost.
+use Rattle.units.specs.declared.Millis.{Millis}
 use Rattle.window.specs.Weighing.{Weighs}
 use Rattle.window.specs.Answers.{asWeighs}
+use Rattle.rules.specs.Begin as begins
 use Rattle.rules.specs.Calls as calls
 use Rattle.rules.specs.Pairs as pairs
 use Rattle.rules.specs.Reply as replies
@@ -25,6 +27,11 @@ asPair p = record { sampled = p .sampled; this = p .this; previous = asPrevious 
 
 abbrev pub asSettings : Settings → state.Settings
 asSettings s = record { rated = s .rated .0; pause = s .pause .0; ventilation = s .ventilation }
+
+-- begin's values, the pause as it is given
+abbrev pub beginsWith : Millis → Settings → begins.Begin
+beginsWith now given =
+    record { time = now .0; rated = given .rated .0; pause = given .pause .0; ventilation = given .ventilation }
 
 abbrev pub asFaults : Faults → state.Faults
 asFaults f =

@@ -6,10 +6,10 @@ use units::Millis;
 use window::Weighed;
 ghost use mathlib.Core.Path.{_≡_};
 ghost use mathlib.Core.Bool.{cond};
-ghost use lib.Dec.{ltb};
+ghost use lib.Dec.{leb, ltb};
 ghost use Rattle.window.specs.Answers.{asWeighs};
 ghost use Rattle.rules.specs.Begin.{largestTime};
-ghost use Rattle.rules.specs.Lent.{waveAllowed};
+ghost use Rattle.rules.specs.Lent.{mostClosings, waveAllowed};
 ghost use Rattle.rules.specs.Refusals.{orElse, windowRefusal, kindAllowed, limitAllowed, measureAllowed, argumentRefusal};
 ghost use Rattle.leaves.specs.Views.{asEvent};
 
@@ -46,11 +46,18 @@ fn first_of(three: bool, two: bool) -> u8
     }
 }
 
+// Beyond the scale of times.
+pub fn too_late(now: Millis) -> bool
+    ensures { λ r. ⌜ r ≡ ltb largestTime (now .0) ⌝ }
+{
+    Millis(1000000000000).before(now)
+}
+
 // 3: beyond the scale of times; 2: earlier than the last accepted call.
 pub fn time_refusal(last: Millis, now: Millis) -> u8
     ensures { λ r. ⌜ r ≡ cond (ltb largestTime (now .0)) 3 (cond (ltb (now .0) (last .0)) 2 0) ⌝ }
 {
-    let late = Millis(1000000000000).before(now);
+    let late = too_late(now);
     let back = now.before(last);
     first_of(late, back)
 }
@@ -83,6 +90,13 @@ pub fn wave_allowed(wave: u32) -> bool
     let driven = units::driven(wave);
     let high = wave == 1000;
     tests::any_of(low, driven, high)
+}
+
+// The closings of a lent controller.
+pub fn count_allowed(closings: u32) -> bool
+    ensures { λ r. ⌜ r ≡ leb closings mostClosings ⌝ }
+{
+    closings <= 1000000001
 }
 
 // The window's own refusal: 4, 5 or 6.

@@ -6,8 +6,10 @@ ghost use mathlib.Core.Bool.{_||_, cond};
 ghost use lib.Dec.{eqb};
 ghost use Rattle.units.specs.Wave.{driven};
 ghost use Rattle.pilot.specs.Bands.{bandE};
+ghost use Rattle.rules.specs.Answer.{alone};
 ghost use Rattle.rules.specs.Step3Wave.{isLetter};
 ghost use Rattle.rules.specs.Reply.{letterF, letterU};
+ghost use Rattle.leaves.specs.Views.{asReply};
 
 #[repr(C)]
 pub struct Reply {
@@ -65,4 +67,19 @@ pub fn digit(letter: u8, wave: u32) -> u8
     let f = letter == b'F';
     let without = tests::any_of(u, e, f);
     digit_by(without, driven)
+}
+
+// A refusal that comes alone: zeros beside the number.
+pub fn alone(number: u8) -> Reply
+    ensures { λ r. ⌜ asReply r ≡ alone number ⌝ }
+{
+    Reply {
+        refusal: number,
+        letter: 0,
+        digit: 0,
+        wave: 0,
+        closed: false,
+        fault: 0,
+        closings: 0,
+    }
 }

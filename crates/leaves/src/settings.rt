@@ -1,9 +1,13 @@
 // Begin's settings: their ranges, and the pause in force.
+use crate::refusals;
 use crate::tests;
 use units::Milliamps;
 use units::Millis;
 ghost use mathlib.Core.Path.{_≡_};
-ghost use Rattle.rules.specs.Begin.{ratedAllowed, pauseAllowed, pauseFor};
+ghost use mathlib.Core.Bool.{cond};
+ghost use lib.Dec.{eqb};
+ghost use Rattle.rules.specs.Begin.{ratedAllowed, pauseAllowed, pauseFor, beginRefusal};
+ghost use Rattle.leaves.specs.Views.{asSettings, beginsWith};
 
 #[repr(C)]
 pub struct Settings {
@@ -30,10 +34,54 @@ pub fn pause_allowed(pause: Millis) -> bool
     tests::both(not_below, not_above)
 }
 
+pub fn no_pause(pause: Millis) -> bool
+    ensures { λ r. ⌜ r ≡ eqb (pause .0) 0 ⌝ }
+{
+    pause.0 == 0
+}
+
 // The pause in force: 0 means 3,000.
 pub fn pause_for(pause: Millis) -> Millis
     ensures { λ r. ⌜ r .0 ≡ pauseFor (pause .0) ⌝ }
 {
     let none = pause.0 == 0;
     if none { Millis(3000) } else { pause }
+}
+
+// The settings with the pause in force.
+pub fn in_force(given: Settings) -> Settings
+    ensures { λ r. ⌜ asSettings r ≡ record { rated = given .rated .0; pause = pauseFor (given .pause .0); ventilation = given .ventilation } ⌝ }
+{
+    let rated = given.rated;
+    let pause = pause_for(given.pause);
+    Settings {
+        rated: rated,
+        pause: pause,
+        ventilation: given.ventilation,
+    }
+}
+
+fn begin_number(late: bool, fine: bool) -> u8
+    ensures { λ r. ⌜ r ≡ cond late 3 (cond fine 0 1) ⌝ }
+{
+    if late {
+        3
+    } else if fine {
+        0
+    } else {
+        1
+    }
+}
+
+// Begin's refusal: 3, then 1; 0 if it is accepted.
+pub fn begin_refusal(now: Millis, given: Settings) -> u8
+    ensures { λ r. ⌜ r ≡ beginRefusal (beginsWith now given) ⌝ }
+{
+    let late = refusals::too_late(now);
+    let rated = rated_allowed(given.rated);
+    let none = no_pause(given.pause);
+    let pause = pause_allowed(given.pause);
+    let either = tests::either(none, pause);
+    let fine = tests::both(rated, either);
+    begin_number(late, fine)
 }

@@ -1,6 +1,6 @@
 -- What an accepted call tells of its time and arguments, and what an accepted begin tells of its values.
-use mathlib.Core.Path.{_≡_, refl}
-use mathlib.Core.Bool.{Bool, true, false, _&&_, _||_, cond}
+use mathlib.Core.Path.{_≡_, refl, ap}
+use mathlib.Core.Bool.{Bool, true, false, _&&_, _||_, not, cond}
 use Prim.Native.Nat.{ℕ, _≤_}
 use native.Mathlib.Omega.{arith}
 use lib.Dec.{eqb, leb, ltb}
@@ -9,6 +9,7 @@ use Rattle.units.specs.Range.{fromTo}
 use Rattle.units.proofs.LevelOrder.{and-parts}
 use Rattle.rules.specs.Begin.{Begin, largestTime, ratedAllowed, pauseAllowed, pauseFor, beginRefusal}
 use Rattle.rules.specs.Calls.{Heard}
+use Rattle.rules.specs.Lent.{Lent, mostClosings, inRange, altered, lentRefusal}
 use Rattle.rules.specs.Refusals.{orElse, timeRefusal, argumentRefusal, refusal}
 use Rattle.rules.specs.Replay.{isAccepted}
 use Rattle.rules.specs.State.{State}
@@ -21,6 +22,21 @@ neither a b e = go (eqb a 0) refl e
     go : (t : Bool) → eqb a 0 ≡ t → eqb (cond t b a) 0 ≡ true → (a ≡ 0) × (b ≡ 0)
     go true p q = (eqb-true a 0 p, eqb-true b 0 q)
     go false p q = clash q p
+
+-- an accepted call was lent a controller whose count is in range
+pub count-in-range : (lent : Lent) (call : Heard) → eqb (lentRefusal lent call) 0 ≡ true → lent .closings ≤ mostClosings
+unfolding lentRefusal altered
+count-in-range lent call e =
+    go (inRange (lent .kept)) (leb (lent .closings) mostClosings) refl
+    (neither (cond (altered lent) 1 0) (argumentRefusal (call .event)) (is-none (neither (timeRefusal (lent .kept) (call .time)) _ e .1)) .0)
+  where
+    is-none : {n : ℕ} → n ≡ 0 → eqb n 0 ≡ true
+    is-none p = ap (λ m. eqb m 0) p
+
+    go : (range few : Bool) → leb (lent .closings) mostClosings ≡ few → _≡_ {A = ℕ} (cond (not (range && few)) 1 0) 0 → lent .closings ≤ mostClosings
+    go true true p q = leb-true (lent .closings) mostClosings p
+    go true false p q = absurd (omega arith)
+    go false few p q = absurd (omega arith)
 
 module _ (s : State) (call : Heard) (into : isAccepted s call ≡ true) where
   both : (timeRefusal s (call .time) ≡ 0) × (argumentRefusal (call .event) ≡ 0)
