@@ -96,13 +96,20 @@ module _ (begin : Begin) (calls : List Call) (accepted : beginRefusal begin ≡ 
   pub closings-told : (k : ℕ) → k ≤ length calls → replyBefore begin calls k .closings ≡ tally k
   closings-told = reply-is (λ l. l .closings) (λ k. replyBefore begin calls k .closings) refl (λ k. refl)
 
-  tells : Follows begin calls (λ k. replyBefore begin calls k .closed) (λ k. replyBefore begin calls k .closings)
-  tells =
-      record {
-        told-is = contactor-told;
-        carried-none = refl;
-        carried-next = λ k below. closings-told (suc k) below ∙ rw (closings-told k (omega arith));
-      }
+  -- demand 3, of any contactor and count that these replies tell
+  pub demand3-replied : (told : ℕ → Bool) (carried : ℕ → ℕ)
+      → ((k : ℕ) → k ≤ length calls → told k ≡ replyBefore begin calls k .closed)
+      → ((k : ℕ) → k ≤ length calls → carried k ≡ replyBefore begin calls k .closings)
+      → Demand3 (traceOf begin calls told carried)
+  demand3-replied told carried tells counts =
+      demand3-told begin calls told carried
+      (record {
+        told-is = λ k within. tells k within ∙ contactor-told k within;
+        carried-none = counts 0 (omega arith);
+        carried-next = λ k below.
+            counts (suc k) below ∙ closings-told (suc k) below ∙ rw (counts k (omega arith), closings-told k (omega arith));
+      })
+      accepted
 
   pub demand3 : Demand3 (answered begin calls)
-  demand3 = demand3-told begin calls _ _ tells accepted
+  demand3 = demand3-replied _ _ (λ k within. refl) (λ k within. refl)

@@ -1,0 +1,64 @@
+-- Demand 3 of every run: there is no hypothesis but the run.
+use mathlib.Core.Path.{_≡_, refl, sym, _∙_, ap}
+use mathlib.Core.List.{List, _∷_}
+use Prim.Native.Nat.{ℕ, zero, suc, _≤_}
+use native.Mathlib.Omega.{arith}
+use lib.ListN.{length, getD, take}
+use lib.Seq.{take-length}
+use Rattle.rules.specs.Answer.{begun, replyTo, lentAfter}
+use Rattle.rules.specs.Begin.{Begin, beginRefusal}
+use Rattle.rules.specs.Calls.{Call}
+use Rattle.rules.specs.Replay.{replay}
+use Rattle.rules.specs.Traces.{before, callAt, lentAt, replyBefore}
+use Rattle.rules.proofs.EveryList.{every-list}
+use Rattle.rules.proofs.Lending.{demand3-replied}
+use Rattle.leaves.specs.declared.replies.Reply.{Reply}
+use Rattle.leaves.specs.Views.{asReply}
+use Rattle.controller.specs.declared.Controller.{Controller}
+use Rattle.controller.specs.Answers.{handedBack}
+use Rattle.controller.specs.View.{view}
+use Rattle.claim.specs.Run.{Run}
+use Rattle.claim.specs.EveryRun.{told, EveryRun}
+use Rattle.claim.proofs.Begun.{begin-accepted, begun-is}
+use Rattle.claim.proofs.Lending.{each-answered, final-is, reply-is}
+
+module _ (begin : Begin) (calls : List Call) (begins : Reply) (replies : List Reply) (final : Controller) (run : Run begin calls begins replies final) where
+  accepted : beginRefusal begin ≡ 0
+  accepted = begin-accepted (view (run .lent)) begin (handedBack begins (run .fresh)) (run .begins) (run .accepted)
+
+  fresh-is : view (run .fresh) ≡ begun begin
+  fresh-is = ap (λ a. a .lent) (begun-is (view (run .lent)) begin (handedBack begins (run .fresh)) (run .begins) (run .accepted))
+
+  replies-are : (k : ℕ) → k ≤ length calls → asReply (told begins replies k) ≡ replyBefore begin calls k
+  replies-are zero within = ap (λ a. a .reply) (begun-is (view (run .lent)) begin (handedBack begins (run .fresh)) (run .begins) (run .accepted))
+  replies-are (suc k) within =
+      reply-is (run .fresh) calls replies final (run .lends) begins k within
+      ∙ ap (λ lent. replyTo (lentAfter lent (take k calls)) (callAt begin calls k)) fresh-is
+
+  -- the final controller is the one after the whole list
+  final-lent : view final ≡ lentAt begin calls (length calls)
+  final-lent =
+      final-is (run .fresh) calls replies final (run .lends)
+      ∙ ap (λ lent. lentAfter lent calls) fresh-is
+      ∙ ap (λ l. lentAfter (begun begin) l) (sym (take-length calls))
+
+  pub every-run : EveryRun begin calls begins replies final
+  every-run =
+      let list = every-list begin calls accepted in
+      let whole = replies-are (length calls) (omega arith) in
+      record {
+        each-answered = each-answered (run .fresh) calls replies final (run .lends);
+        refusals = λ k below. ap (λ r. r .refusal) (replies-are (suc k) below) ∙ list .refusals k below;
+        waves = λ k within. ap (λ r. r .wave) (replies-are k within) ∙ list .waves k within;
+        contactor-held =
+            ap (λ l. l .kept .closed) final-lent ∙ list .held (length calls) (omega arith) ∙ sym (ap (λ r. r .closed) whole);
+        closings-held =
+            ap (λ l. l .closings) final-lent ∙ list .carried (length calls) (omega arith) ∙ sym (ap (λ r. r .closings) whole);
+        all-kept =
+            ap (λ l. l .kept) final-lent ∙ list .kept (length calls) (omega arith) ∙ ap (λ l. replay begin l) (take-length calls);
+        replies-are = replies-are;
+        demand3 =
+            demand3-replied begin calls accepted (λ k. told begins replies k .closed) (λ k. told begins replies k .closings)
+            (λ k within. ap (λ r. r .closed) (replies-are k within))
+            (λ k within. ap (λ r. r .closings) (replies-are k within));
+      }

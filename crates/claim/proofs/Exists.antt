@@ -1,0 +1,38 @@
+-- Every accepted begin and every list of calls has a run, whatever controller is lent to begin: what is claimed of runs is not empty.
+use mathlib.Core.Path.{_≡_, refl, sym, ap}
+use mathlib.Core.Bool.{cond}
+use mathlib.Core.List.{List, [], _∷_}
+use lib.Dec.{eqb}
+use Rattle.rules.specs.Answer.{begun, next, replyTo, lentAfter, alone, answerToBegin}
+use Rattle.rules.specs.Begin.{Begin, beginRefusal}
+use Rattle.rules.specs.Calls.{Call, heard, inTurn}
+use Rattle.rules.specs.Lent.{Lent}
+use Rattle.rules.specs.Reply.{shown}
+use Rattle.leaves.specs.declared.replies.Reply.{Reply}
+use Rattle.controller.specs.declared.Controller.{Controller}
+use Rattle.controller.specs.View.{view}
+use Rattle.controller.proofs.Fixes.{controllerOf, replyOf}
+use Rattle.claim.specs.Run.{Lends, Run, HasRun}
+
+-- the replies that the definitions give
+repliesOf : Lent → List Call → List Reply
+repliesOf lent [] = []
+repliesOf lent (call ∷ calls) = replyOf (replyTo lent (heard call)) ∷ repliesOf (next lent (heard call)) calls
+
+lends-all : (lent : Lent) (calls : List Call) → Lends (controllerOf lent) calls (repliesOf lent calls) (controllerOf (lentAfter lent calls))
+unfolding repliesOf inTurn
+lends-all lent [] = refl
+lends-all lent (call ∷ calls) = (controllerOf (next lent (heard call)), refl, lends-all (next lent (heard call)) calls)
+
+pub has-run : (lent : Controller) (begin : Begin) (calls : List Call) → beginRefusal begin ≡ 0 → HasRun begin calls
+unfolding answerToBegin
+has-run lent begin calls accepted = (
+  replyOf (shown 0 (begun begin)),
+  repliesOf (begun begin) calls,
+  controllerOf (lentAfter (begun begin) calls),
+  record { lent = lent; fresh = controllerOf (begun begin); begins = begins; accepted = refl; lends = lends-all (begun begin) calls },
+)
+  where
+    begins : record { lent = begun begin; reply = shown 0 (begun begin) } ≡ answerToBegin (view lent) begin
+    begins =
+        sym (ap (λ n. cond (eqb n 0) (record { lent = begun begin; reply = shown 0 (begun begin) }) (record { lent = view lent; reply = alone (beginRefusal begin) })) accepted)

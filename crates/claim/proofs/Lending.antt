@@ -1,0 +1,42 @@
+-- What a run lends and answers is what the definitions do.
+use mathlib.Core.Path.{_≡_, refl, sym, _∙_, ap}
+use mathlib.Core.List.{List, [], _∷_}
+use Prim.Native.Nat.{ℕ, zero, suc, _<_}
+use native.Mathlib.Nat.{not-suc-le-zero, le-of-suc-le-suc}
+use lib.ListN.{length, getD, take}
+use Rattle.rules.specs.Answer.{next, replyTo, lentAfter}
+use Rattle.rules.specs.Calls.{Call, heard, inTurn}
+use Rattle.rules.specs.Lent.{Lent}
+use Rattle.rules.specs.Traces.{noCall}
+use Rattle.leaves.specs.declared.replies.Reply.{Reply}
+use Rattle.leaves.specs.Views.{asReply}
+use Rattle.controller.specs.declared.Controller.{Controller}
+use Rattle.controller.specs.View.{view}
+use Rattle.claim.specs.Run.{Lends}
+
+pub each-answered : (c : Controller) (calls : List Call) (replies : List Reply) (final : Controller)
+    → Lends c calls replies final → length replies ≡ length calls
+each-answered c [] [] final lends = refl
+each-answered c [] (reply ∷ replies) final lends = absurd lends
+each-answered c (call ∷ calls) [] final lends = absurd lends
+each-answered c (call ∷ calls) (reply ∷ replies) final (after, answers, rest) = ap suc (each-answered after calls replies final rest)
+
+pub final-is : (c : Controller) (calls : List Call) (replies : List Reply) (final : Controller)
+    → Lends c calls replies final → view final ≡ lentAfter (view c) calls
+unfolding inTurn
+final-is c [] [] final lends = ap view lends
+final-is c [] (reply ∷ replies) final lends = absurd lends
+final-is c (call ∷ calls) [] final lends = absurd lends
+final-is c (call ∷ calls) (reply ∷ replies) final (after, answers, rest) =
+    final-is after calls replies final rest ∙ ap (λ lent. lentAfter lent calls) (ap (λ a. a .lent) answers)
+
+pub reply-is : (c : Controller) (calls : List Call) (replies : List Reply) (final : Controller) → Lends c calls replies final
+    → (none : Reply) (k : ℕ) → k < length calls
+    → asReply (getD replies k none) ≡ replyTo (lentAfter (view c) (take k calls)) (heard (getD calls k noCall))
+unfolding inTurn
+reply-is c [] replies final lends none k below = absurd (not-suc-le-zero below)
+reply-is c (call ∷ calls) [] final lends none k below = absurd lends
+reply-is c (call ∷ calls) (reply ∷ replies) final (after, answers, rest) none zero below = ap (λ a. a .reply) answers
+reply-is c (call ∷ calls) (reply ∷ replies) final (after, answers, rest) none (suc k) below =
+    reply-is after calls replies final rest none k (le-of-suc-le-suc below)
+    ∙ ap (λ lent. replyTo (lentAfter lent (take k calls)) (heard (getD calls k noCall))) (ap (λ a. a .lent) answers)

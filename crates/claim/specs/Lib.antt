@@ -1,0 +1,3 @@
+-- A run of the controller's calls, and what holds of every run.
+pub mod Run
+pub mod EveryRun

@@ -1,0 +1,30 @@
+-- A run: an accepted begin, and one controller that is lent from call to call, with nobody else writing it. What each call hands back is
+-- told by the proposition in that call's own contract, `Begins` or `Answers`.
+use mathlib.Core.Path.{_≡_}
+use mathlib.Core.List.{List, [], _∷_}
+use Prim.Native.Nat.{ℕ}
+use Rattle.rules.specs.Begin.{Begin}
+use Rattle.rules.specs.Calls.{Call}
+use Rattle.leaves.specs.declared.replies.Reply.{Reply}
+use Rattle.controller.specs.declared.Controller.{Controller}
+use Rattle.controller.specs.Answers.{Answers, Begins}
+
+-- the calls in turn: lent `before`, they hand back the replies, and the last one `final`
+abbrev pub Lends : Controller → List Call → List Reply → Controller → Type 0
+Lends before [] [] final = final ≡ before
+Lends before [] (reply ∷ replies) final = ⊥
+Lends before (call ∷ calls) [] final = ⊥
+Lends before (call ∷ calls) (reply ∷ replies) final =
+    (after : Controller) × Answers call before reply after × Lends after calls replies final
+
+pub record Run (begin : Begin) (calls : List Call) (begun : Reply) (replies : List Reply) (final : Controller) : Type 0 where
+  -- what the host lends to begin, and what it gets back
+  pub lent : Controller
+  pub fresh : Controller
+  pub begins : Begins begin lent begun fresh
+  pub accepted : _≡_ {A = ℕ} (begun .refusal) 0
+  pub lends : Lends fresh calls replies final
+
+-- the calls can be made: some replies and some final controller
+abbrev pub HasRun : Begin → List Call → Type 0
+HasRun begin calls = (begun : Reply) × (replies : List Reply) × (final : Controller) × Run begin calls begun replies final
