@@ -1,6 +1,6 @@
 -- Demand 3 of every run: there is no hypothesis but the run.
 use mathlib.Core.Path.{_≡_, refl, sym, _∙_, ap}
-use mathlib.Core.List.{List, _∷_}
+use mathlib.Core.List.{List, map}
 use Prim.Native.Nat.{ℕ, zero, suc, _≤_}
 use native.Mathlib.Omega.{arith}
 use lib.ListN.{length, getD, take}
@@ -9,6 +9,8 @@ use Rattle.rules.specs.Answer.{begun, replyTo, lentAfter}
 use Rattle.rules.specs.Begin.{Begin, beginRefusal}
 use Rattle.rules.specs.Calls.{Call}
 use Rattle.rules.specs.Replay.{replay}
+use Rattle.rules.specs.Reply.{shown}
+use Rattle.rules.specs.Sequences.{repliesTo}
 use Rattle.rules.specs.Traces.{before, callAt, lentAt, replyBefore}
 use Rattle.rules.proofs.EveryList.{every-list}
 use Rattle.rules.proofs.Lending.{demand3-replied}
@@ -20,7 +22,7 @@ use Rattle.controller.specs.View.{view}
 use Rattle.claim.specs.Run.{Run}
 use Rattle.claim.specs.EveryRun.{told, EveryRun}
 use Rattle.claim.proofs.Begun.{begin-accepted, begun-is}
-use Rattle.claim.proofs.Lending.{each-answered, final-is, reply-is}
+use Rattle.claim.proofs.Lending.{each-answered, final-is, reply-is, replies-are as all-replies}
 
 module _ (begin : Begin) (calls : List Call) (begins : Reply) (replies : List Reply) (final : Controller) (run : Run begin calls begins replies final) where
   accepted : beginRefusal begin ≡ 0
@@ -29,18 +31,25 @@ module _ (begin : Begin) (calls : List Call) (begins : Reply) (replies : List Re
   fresh-is : view (run .fresh) ≡ begun begin
   fresh-is = ap (λ a. a .lent) (begun-is (view (run .lent)) begin (handedBack begins (run .fresh)) (run .begins) (run .accepted))
 
+  -- the run, computed: begin's reply, the others, and the final controller
+  pub begun-told : asReply begins ≡ shown 0 (begun begin)
+  begun-told = ap (λ a. a .reply) (begun-is (view (run .lent)) begin (handedBack begins (run .fresh)) (run .begins) (run .accepted))
+
+  pub replies-told : map asReply replies ≡ repliesTo (begun begin) calls
+  replies-told = all-replies (run .fresh) calls replies final (run .lends) ∙ ap (λ lent. repliesTo lent calls) fresh-is
+
+  pub final-told : view final ≡ lentAfter (begun begin) calls
+  final-told = final-is (run .fresh) calls replies final (run .lends) ∙ ap (λ lent. lentAfter lent calls) fresh-is
+
   replies-are : (k : ℕ) → k ≤ length calls → asReply (told begins replies k) ≡ replyBefore begin calls k
-  replies-are zero within = ap (λ a. a .reply) (begun-is (view (run .lent)) begin (handedBack begins (run .fresh)) (run .begins) (run .accepted))
+  replies-are zero within = begun-told
   replies-are (suc k) within =
       reply-is (run .fresh) calls replies final (run .lends) begins k within
       ∙ ap (λ lent. replyTo (lentAfter lent (take k calls)) (callAt begin calls k)) fresh-is
 
   -- the final controller is the one after the whole list
   final-lent : view final ≡ lentAt begin calls (length calls)
-  final-lent =
-      final-is (run .fresh) calls replies final (run .lends)
-      ∙ ap (λ lent. lentAfter lent calls) fresh-is
-      ∙ ap (λ l. lentAfter (begun begin) l) (sym (take-length calls))
+  final-lent = final-told ∙ ap (λ l. lentAfter (begun begin) l) (sym (take-length calls))
 
   pub every-run : EveryRun begin calls begins replies final
   every-run =

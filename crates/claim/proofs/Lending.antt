@@ -1,12 +1,13 @@
 -- What a run lends and answers is what the definitions do.
 use mathlib.Core.Path.{_≡_, refl, sym, _∙_, ap}
-use mathlib.Core.List.{List, [], _∷_}
+use mathlib.Core.List.{List, [], _∷_, map}
 use Prim.Native.Nat.{ℕ, zero, suc, _<_}
 use native.Mathlib.Nat.{not-suc-le-zero, le-of-suc-le-suc}
 use lib.ListN.{length, getD, take}
 use Rattle.rules.specs.Answer.{next, replyTo, lentAfter}
 use Rattle.rules.specs.Calls.{Call, heard, inTurn}
 use Rattle.rules.specs.Lent.{Lent}
+use Rattle.rules.specs.Sequences.{repliesTo}
 use Rattle.rules.specs.Traces.{noCall}
 use Rattle.leaves.specs.declared.replies.Reply.{Reply}
 use Rattle.leaves.specs.Views.{asReply}
@@ -40,3 +41,14 @@ reply-is c (call ∷ calls) (reply ∷ replies) final (after, answers, rest) non
 reply-is c (call ∷ calls) (reply ∷ replies) final (after, answers, rest) none (suc k) below =
     reply-is after calls replies final rest none k (le-of-suc-le-suc below)
     ∙ ap (λ lent. replyTo (lentAfter lent (take k calls)) (heard (getD calls k noCall))) (ap (λ a. a .lent) answers)
+
+-- all replies of a run together
+pub replies-are : (c : Controller) (calls : List Call) (replies : List Reply) (final : Controller)
+    → Lends c calls replies final → map asReply replies ≡ repliesTo (view c) calls
+unfolding repliesTo
+replies-are c [] [] final lends = refl
+replies-are c [] (reply ∷ replies) final lends = absurd lends
+replies-are c (call ∷ calls) [] final lends = absurd lends
+replies-are c (call ∷ calls) (reply ∷ replies) final (after, answers, rest) =
+    ap (λ l. asReply reply ∷ l) (replies-are after calls replies final rest)
+    ∙ ap (λ a. a .reply ∷ repliesTo (a .lent) calls) answers
