@@ -2,3 +2,4 @@
 mod InTurn
 mod HandedBack
 pub mod Fixes
+pub mod ZeroLaws

@@ -1,0 +1,29 @@
+-- A controller that no begin has filled: memory that the host has cleared. Rated 0 is out of range, so refusal 1 names it (proofs/ZeroLaws.antt).
+use mathlib.Core.Bool.{false}
+use Prim.Native.Nat.{ℕ}
+use Rattle.rules.specs.Lent.{Lent}
+use Rattle.rules.specs.State.{Settings, unsettled, noFaults, empty, forgotten}
+
+-- nothing stored
+abbrev pub blank : Settings → ℕ → ℕ → Lent
+blank settings wave last =
+    record {
+      kept = record {
+        settings = settings;
+        limit = 0;
+        wave = wave;
+        closed = false;
+        settled = unsettled;
+        faults = noFaults;
+        last = last;
+        sound = empty;
+        opening = empty;
+        overrun = empty;
+        stop = empty;
+        previous = forgotten;
+      };
+      closings = 0;
+    }
+
+abbrev pub zeroed : Lent
+zeroed = blank (record { rated = 0; pause = 0; ventilation = false }) 0 0
