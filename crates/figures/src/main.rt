@@ -1,7 +1,11 @@
 // The unstarred bench figures of document 01, through the proved functions. What it writes is held to the file stdout.
+mod cycles;
 mod print;
 mod readings;
+mod refusals;
 mod rows;
+mod same;
+mod told;
 
 fn main() {
     rows::duties();
@@ -9,4 +13,18 @@ fn main() {
     rows::lengths();
     rows::support();
     rows::ranges();
+    cycles::first_charge();
+    cycles::second_charge();
+    cycles::limit_withdrawn();
+    cycles::limit_repeated();
+    cycles::over_run();
+    cycles::no_over_run();
+    cycles::between_bands();
+    cycles::bad_diode();
+    cycles::residual_current();
+    cycles::ventilation();
+    cycles::no_ventilation();
+    cycles::clock();
+    refusals::all();
+    refusals::altered();
 }

@@ -1,0 +1,157 @@
+// The sequences of the bench figures: rated 32,000 mA, pause 0, no ventilation.
+use crate::print;
+use crate::told;
+use controller::Controller;
+
+// Samples as a driven wave shows them, with the low level at -12,000, and as a steady one does.
+fn swing_b(c: Controller, time: u64) -> Controller {
+    told::sample(c, time, b"sample 9000/-12000   ", 9000, -12000)
+}
+
+fn swing_c(c: Controller, time: u64) -> Controller {
+    told::sample(c, time, b"sample 6000/-12000   ", 6000, -12000)
+}
+
+fn steady_b(c: Controller, time: u64) -> Controller {
+    told::sample(c, time, b"sample 9000/9000     ", 9000, 9000)
+}
+
+fn steady_c(c: Controller, time: u64) -> Controller {
+    told::sample(c, time, b"sample 6000/6000     ", 6000, 6000)
+}
+
+// The same charge without a line: B settles at 20, and C closes at 40.
+pub fn charging() -> Controller {
+    let none = Controller::zeroed();
+    let a = controller::begin(none, 0, 32000, 0, false);
+    let a = controller::limit(a.controller, 0, 32000);
+    let c = told::samples(a.controller, 10, 30, 9000, 9000);
+    told::samples(c, 30, 50, 6000, -12000)
+}
+
+pub fn first_charge() {
+    print::text(
+        b"\nFirst charge; a level of B is not sound, and 81 after the last sound sample it opens\n",
+    );
+    let c = told::begin(b"begin 32000, pause 0 ", 0, 32000, 0, false);
+    let c = told::limit(c, 0, b"limit 32000          ", 32000);
+    let c = steady_b(c, 10);
+    let c = steady_b(c, 20);
+    let c = swing_c(c, 30);
+    let c = swing_c(c, 40);
+    let c = swing_b(c, 50);
+    let c = told::tick(c, 120);
+    told::tick(c, 121);
+}
+
+pub fn second_charge() {
+    print::text(
+        b"\nFrom here on the van has charged since 40. Two unsound samples open; the next closing waits for the pause (samples every 10)\n",
+    );
+    let c = charging();
+    let c = swing_b(c, 50);
+    let c = swing_b(c, 60);
+    let c = told::samples(c, 70, 3050, 6000, -12000);
+    let c = swing_c(c, 3050);
+    swing_c(c, 3060);
+}
+
+// The van has charged until 5,000, when the depot withdraws its limit.
+fn withdrawn() -> Controller {
+    let c = charging();
+    let c = told::samples(c, 50, 5000, 6000, -12000);
+    told::limit(c, 5000, b"limit 0              ", 0)
+}
+
+pub fn limit_withdrawn() {
+    print::text(b"\nLimit 0 at 5000 stops the van (samples every 10)\n");
+    let c = withdrawn();
+    let c = told::samples(c, 5010, 7990, 6000, 6000);
+    let c = steady_c(c, 7990);
+    steady_c(c, 8000);
+}
+
+pub fn limit_repeated() {
+    print::text(b"\nLimit 0 told again does not start the stop afresh\n");
+    let c = withdrawn();
+    let c = told::samples(c, 5010, 7000, 6000, 6000);
+    let c = told::limit(c, 7000, b"limit 0              ", 0);
+    let c = told::samples(c, 7010, 7990, 6000, 6000);
+    let c = steady_c(c, 7990);
+    steady_c(c, 8000);
+}
+
+pub fn over_run() {
+    print::text(
+        b"\nOver-run at 533: 35179 starts one, and 5000 later fault 2 comes (samples every 10)\n",
+    );
+    let c = charging();
+    let c = told::measure(c, 50, b"measure 35178        ", 35178);
+    let c = told::measure(c, 60, b"measure 35179        ", 35179);
+    let c = told::samples(c, 70, 5059, 6000, -12000);
+    let c = told::tick(c, 5059);
+    told::tick(c, 5060);
+}
+
+pub fn no_over_run() {
+    print::text(b"\nOver-run at 533: 35178 starts none\n");
+    let c = charging();
+    let c = told::measure(c, 60, b"measure 35178        ", 35178);
+    let c = told::samples(c, 70, 5059, 6000, -12000);
+    let c = told::tick(c, 5059);
+    told::tick(c, 5060);
+}
+
+pub fn between_bands() {
+    print::text(b"\nHigh 7200 is no band: it opens nothing and is not B\n");
+    let c = charging();
+    let c = told::sample(c, 50, b"sample 7200/-12000   ", 7200, -12000);
+    let c = told::sample(c, 60, b"sample 7200/-12000   ", 7200, -12000);
+    let c = told::sample(c, 70, b"sample 7500/-12000   ", 7500, -12000);
+    told::sample(c, 80, b"sample 7500/-12000   ", 7500, -12000);
+}
+
+pub fn bad_diode() {
+    print::text(b"\nTwo samples without a diode: fault 1\n");
+    let c = charging();
+    let c = told::sample(c, 50, b"sample 6000/-10999   ", 6000, -10999);
+    told::sample(c, 60, b"sample 6000/-10999   ", 6000, -10999);
+}
+
+pub fn residual_current() {
+    print::text(
+        b"\nA fault call opens; after clear the van charges again when the pause is over\n",
+    );
+    let c = charging();
+    let c = told::fault(c, 50, b"fault 3              ", 3);
+    let c = told::clear(c, 60);
+    let c = told::samples(c, 70, 90, 6000, 6000);
+    let c = told::tick(c, 90);
+    let c = told::samples(c, 100, 3050, 6000, -12000);
+    let c = told::tick(c, 3049);
+    swing_c(c, 3050);
+}
+
+pub fn ventilation() {
+    print::text(b"\nD with ventilation charges as C does\n");
+    let c = told::begin(b"begin, ventilated    ", 0, 32000, 0, true);
+    let c = told::limit(c, 0, b"limit 32000          ", 32000);
+    let c = told::samples(c, 10, 30, 3000, 3000);
+    let c = told::sample(c, 30, b"sample 3000/-12000   ", 3000, -12000);
+    told::sample(c, 40, b"sample 3000/-12000   ", 3000, -12000);
+}
+
+pub fn no_ventilation() {
+    print::text(b"\nWithout it, D opens\n");
+    let c = charging();
+    let c = told::sample(c, 50, b"sample 3000/-12000   ", 3000, -12000);
+    told::sample(c, 60, b"sample 3000/-12000   ", 3000, -12000);
+}
+
+pub fn clock() {
+    print::text(b"\nA refused call does not move the clock, and equal times are accepted\n");
+    let c = charging();
+    let c = told::limit(c, 900, b"limit 80001          ", 80001);
+    let c = told::tick(c, 40);
+    told::tick(c, 39);
+}
