@@ -4,7 +4,7 @@ use leaves::faults::Faults;
 use leaves::moments::Moment;
 use leaves::samples::Previous;
 use leaves::settings::Settings;
-use leaves::tests;
+use units::tests;
 
 fn moments(a: Moment, b: Moment) -> bool {
     let set = a.set == b.set;

@@ -1,5 +1,5 @@
 // The latched faults.
-use crate::tests;
+use units::tests;
 ghost use mathlib.Core.Path.{_≡_};
 ghost use mathlib.Core.Bool.{_||_};
 ghost use lib.Dec.{eqb};

@@ -7,5 +7,4 @@ pub mod refusals; // the order of refusals, and their conditions
 pub mod replies; // the reply
 pub mod samples; // this and the previous sample
 pub mod settings; // begin's settings
-pub mod tests; // tests put together
 pub mod waves; // step 3

@@ -1,8 +1,8 @@
 // What a call is refused for: 3, then 2, then by number; 0 if it is accepted.
 use crate::events::Event;
-use crate::tests;
 use units::Milliamps;
 use units::Millis;
+use units::tests;
 use window::Weighed;
 ghost use mathlib.Core.Path.{_≡_};
 ghost use mathlib.Core.Bool.{cond};

@@ -1,6 +1,6 @@
 // The reply: what is shown of a controller, beside the refusal number.
-use crate::tests;
 use crate::waves;
+use units::tests;
 ghost use mathlib.Core.Path.{_≡_};
 ghost use mathlib.Core.Bool.{_||_, cond};
 ghost use lib.Dec.{eqb};

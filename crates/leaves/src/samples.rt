@@ -1,6 +1,6 @@
 // This and the previous sample: two successive accepted samples with nothing forgotten between them.
-use crate::tests;
 use pilot::verdicts::Verdict;
+use units::tests;
 ghost use mathlib.Core.Path.{_≡_};
 ghost use mathlib.Core.Bool.{true, cond};
 ghost use Rattle.rules.specs.State.{noVerdict, forgotten};

@@ -1,8 +1,8 @@
 // Begin's settings: their ranges, and the pause in force.
 use crate::refusals;
-use crate::tests;
 use units::Milliamps;
 use units::Millis;
+use units::tests;
 ghost use mathlib.Core.Path.{_≡_};
 ghost use mathlib.Core.Bool.{cond};
 ghost use lib.Dec.{eqb};

@@ -1,10 +1,10 @@
 // Step 3 of an accepted call: the wave, and what follows from it for the over-run and the stop.
 use crate::moments;
 use crate::moments::Moment;
-use crate::tests;
 use duty::Greatest;
 use units::Milliamps;
 use units::Millis;
+use units::tests;
 ghost use mathlib.Core.Path.{_≡_};
 ghost use mathlib.Core.Bool.{_&&_, _||_, not, cond};
 ghost use lib.Dec.{eqb, ltb};

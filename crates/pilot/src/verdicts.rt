@@ -1,6 +1,7 @@
 // The verdicts on a sample.
 use crate::bands;
 use units::Millivolts;
+use units::tests;
 ghost use mathlib.Core.Path.{_≡_};
 ghost use mathlib.Core.Bool.{_&&_, _||_, not};
 ghost use Rattle.pilot.specs.Verdicts.{sound, proven, diodeBad, verdictOf};
@@ -12,12 +13,6 @@ pub struct Verdict {
     pub sound: bool,
     pub proven: bool,
     pub diodebad: bool,
-}
-
-fn all(a: bool, b: bool, c: bool) -> bool
-    ensures { λ r. ⌜ r ≡ a && (b && c) ⌝ }
-{
-    if a { if b { c } else { false } } else { false }
 }
 
 fn sound_by(between: bool, driven: bool, low: bool) -> bool
@@ -58,7 +53,7 @@ pub fn proven(wave: u32, high: Millivolts, low: Millivolts, ventilation: bool) -
     let band = bands::band(high);
     let ready = bands::ready(band, ventilation);
     let low_in_band = bands::in_low_band(low);
-    all(driven, ready, low_in_band)
+    tests::all(driven, ready, low_in_band)
 }
 
 // Diode-bad: a driven wave shows a van that is plugged in, and no diode.

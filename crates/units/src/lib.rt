@@ -1,7 +1,9 @@
 // The units of the control pilot: level, current and time. Each is a type of its own, so that the compiler refuses one in the
 // place of another. A duty, and so a wave command, is a plain number: tenths of a percent.
+pub mod tests; // tests.rt: tests put together
+
 ghost use mathlib.Core.Path.{_≡_};
-ghost use mathlib.Core.Bool.{_&&_, cond};
+ghost use mathlib.Core.Bool.{cond};
 ghost use Prim.Native.Nat.{_+_, min};
 ghost use lib.Dec.{leb, ltb};
 ghost use lib.Signed.{leZ, ltZ};
@@ -19,12 +21,6 @@ pub struct Milliamps(pub u32);
 // A point in time or a span of time, in milliseconds.
 #[repr(C)]
 pub struct Millis(pub u64);
-
-fn both(a: bool, b: bool) -> bool
-    ensures { λ r. ⌜ r ≡ a && b ⌝ }
-{
-    a && b
-}
 
 fn pick(first: bool, a: Millivolts, b: Millivolts) -> Millivolts
     ensures { λ r. ⌜ r .0 ≡ cond first (a .0) (b .0) ⌝ }
@@ -51,7 +47,7 @@ impl Millivolts {
     {
         let not_below = self.at_least(from);
         let not_above = to.at_least(self);
-        both(not_below, not_above)
+        tests::both(not_below, not_above)
     }
 
     // Between two levels; the ends do not belong.
@@ -60,7 +56,7 @@ impl Millivolts {
     {
         let above = self.above(from);
         let below = to.above(self);
-        both(above, below)
+        tests::both(above, below)
     }
 
     pub fn higher(self, other: Millivolts) -> Millivolts
