@@ -95,10 +95,10 @@ impl Millis {
         self.0 < later.0
     }
 
-    pub fn not_after(self, other: Millis) -> bool
-        ensures { λ r. ⌜ r ≡ leb (self .0) (other .0) ⌝ }
+    pub fn not_after(self, last: Millis) -> bool
+        ensures { λ r. ⌜ r ≡ leb (self .0) (last .0) ⌝ }
     {
-        self.0 <= other.0
+        self.0 <= last.0
     }
 
     // At `now`, this time lies `span` or more ago. Total: no sum is made that could overflow.
