@@ -4,7 +4,7 @@ use leaves::events;
 use leaves::events::Event;
 use leaves::samples::Pair;
 use units::Millis;
-use units::tests;
+use units::conditions;
 ghost use mathlib.Core.Path.{_≡_};
 ghost use mathlib.Core.Bool.{cond};
 ghost use Rattle.rules.specs.Pairs.{pairOf};
@@ -38,7 +38,7 @@ impl Controller {
         let opens = after_wave.opens(now, pair);
         let after_opening = after_wave.opening(now, pair);
         let after_closing = after_opening.closing(opens, now, pair);
-        let forgot = tests::either(unsettles, opens);
+        let forgot = conditions::either(unsettles, opens);
         after_closing.end(forgot, now, pair)
     }
 

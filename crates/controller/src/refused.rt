@@ -4,7 +4,7 @@ use leaves::events::Event;
 use leaves::refusals;
 use leaves::settings;
 use units::Millis;
-use units::tests;
+use units::conditions;
 ghost use mathlib.Core.Path.{_≡_};
 ghost use Rattle.rules.specs.Lent.{timesAllowed, inRange, altered, lentRefusal};
 ghost use Rattle.controller.specs.View.{kept, view, heardAt};
@@ -18,8 +18,8 @@ impl Controller {
         let opening = self.opening.stored_allowed(self.last);
         let overrun = self.overrun.stored_allowed(self.last);
         let stop = self.stop.stored_allowed(self.last);
-        let starts = tests::both(overrun, stop);
-        tests::all(sound, opening, starts)
+        let starts = conditions::both(overrun, stop);
+        conditions::all(sound, opening, starts)
     }
 
     fn in_range(self) -> bool
@@ -30,8 +30,8 @@ impl Controller {
         let rated = settings::rated_allowed(self.settings.rated);
         let pause = settings::pause_allowed(self.settings.pause);
         let times = self.times_allowed();
-        let rest = tests::all(rated, pause, times);
-        tests::all(wave, limit, rest)
+        let rest = conditions::all(rated, pause, times);
+        conditions::all(wave, limit, rest)
     }
 
     // The host has altered it: no list of calls leads here.
@@ -40,7 +40,7 @@ impl Controller {
     {
         let ranges = self.in_range();
         let few = refusals::count_allowed(self.closings);
-        let whole = tests::both(ranges, few);
+        let whole = conditions::both(ranges, few);
         !whole
     }
 

@@ -9,11 +9,11 @@ use leaves::samples;
 use leaves::samples::Pair;
 use leaves::waves;
 use units::Millis;
-use units::tests;
+use units::conditions;
 ghost use mathlib.Core.Path.{_≡_};
 ghost use Rattle.rules.specs.Accepted.{stepEnd};
 ghost use Rattle.rules.specs.Step1Event.{stepEvent};
-ghost use Rattle.rules.specs.Step2Latches.{unsettles, stepLatch};
+ghost use Rattle.rules.specs.Step2Latches.{overCurrent, unsettles, stepLatch};
 ghost use Rattle.rules.specs.Step3Wave.{stepWave};
 ghost use Rattle.rules.specs.Step4Opening.{cause, opens, stepOpening};
 ghost use Rattle.rules.specs.Step5Closing.{closes};
@@ -38,13 +38,20 @@ impl Controller {
         self
     }
 
+    // The over-run has lasted for 5,000 or longer.
+    pub fn over_current(self, now: Millis) -> bool
+        ensures { λ r. ⌜ r ≡ overCurrent (now .0) (kept self) ⌝ }
+    {
+        self.overrun.ran_for(Millis(5000), now)
+    }
+
     // Something latches, or a latched fault is told again.
     pub fn unsettles(self, faultcall: bool, now: Millis, pair: Pair) -> bool
         ensures { λ r. ⌜ r ≡ unsettles faultcall (now .0) (asPair pair) (kept self) ⌝ }
     {
         let diode = pair.both_diode_bad();
-        let over = self.overrun.ran_for(Millis(5000), now);
-        tests::any_of(faultcall, diode, over)
+        let over = self.over_current(now);
+        conditions::any_of(faultcall, diode, over)
     }
 
     // Step 2: latches.
@@ -52,11 +59,11 @@ impl Controller {
         ensures { λ r. ⌜ view r ≡ onKept (stepLatch faultcall (now .0) (asPair pair)) (view self) ⌝ }
     {
         let unsettles = self.unsettles(faultcall, now, pair);
-        let settled = events::letter_if(unsettles, 0, self.settled);
+        let settled = events::pick_settled(unsettles, 0, self.settled);
         let none = samples::forgotten();
         let previous = samples::pick(unsettles, none, self.previous);
         let diode = pair.both_diode_bad();
-        let over = self.overrun.ran_for(Millis(5000), now);
+        let over = self.over_current(now);
         let faults = self.faults.with_latches(diode, over);
         self.settled = settled;
         self.faults = faults;
@@ -84,12 +91,12 @@ impl Controller {
         ensures { λ r. ⌜ r ≡ cause (now .0) (asPair pair) (kept self) ⌝ }
     {
         let one = pair.both_unsound();
-        let two = self.sound.none_since(Millis(80), now);
+        let two = self.sound.none_or_more_than_ago(Millis(80), now);
         let three = waves::unventilated_d(self.settled, self.settings.ventilation);
         let four = self.stop.ran_for(Millis(3000), now);
         let five = self.faults.any();
-        let last_three = tests::any_of(three, four, five);
-        tests::any_of(one, two, last_three)
+        let last_three = conditions::any_of(three, four, five);
+        conditions::any_of(one, two, last_three)
     }
 
     // This call opens the contactor.
@@ -97,7 +104,7 @@ impl Controller {
         ensures { λ r. ⌜ r ≡ opens (now .0) (asPair pair) (kept self) ⌝ }
     {
         let holds = self.cause(now, pair);
-        tests::both(self.closed, holds)
+        conditions::both(self.closed, holds)
     }
 
     // Step 4: opening.
@@ -105,7 +112,7 @@ impl Controller {
         ensures { λ r. ⌜ view r ≡ onKept (stepOpening (now .0) (asPair pair)) (view self) ⌝ }
     {
         let opens = self.opens(now, pair);
-        let closed = tests::both(self.closed, !opens);
+        let closed = conditions::both(self.closed, !opens);
         let here = Moment::set_to(now);
         let empty = Moment::empty();
         let none = samples::forgotten();
@@ -127,9 +134,9 @@ impl Controller {
     {
         let driven = units::driven(self.wave);
         let proven = pair.both_proven();
-        let rested = self.opening.none_within(self.settings.pause, now);
-        let ready = tests::all(driven, proven, rested);
-        tests::all(!self.closed, !opened, ready)
+        let rested = self.opening.none_or_at_least_ago(self.settings.pause, now);
+        let ready = conditions::all(driven, proven, rested);
+        conditions::all(!self.closed, !opened, ready)
     }
 
     // Step 5: closing.
@@ -137,7 +144,7 @@ impl Controller {
         ensures { λ r. ⌜ view r ≡ onClosing opened (now .0) (asPair pair) (view self) ⌝ }
     {
         let closes = self.closes(opened, now, pair);
-        let closed = tests::either(self.closed, closes);
+        let closed = conditions::either(self.closed, closes);
         let closings = counts::counted(closes, self.closings);
         self.closed = closed;
         self.closings = closings;
@@ -148,7 +155,7 @@ impl Controller {
     pub fn end(mut self, forgot: bool, now: Millis, pair: Pair) -> Controller
         ensures { λ r. ⌜ view r ≡ onKept (stepEnd forgot (now .0) (asPair pair)) (view self) ⌝ }
     {
-        let keeps = tests::both(pair.sampled, !forgot);
+        let keeps = conditions::both(pair.sampled, !forgot);
         let this = samples::kept_sample(pair.this);
         let previous = samples::pick(keeps, this, self.previous);
         self.last = now;

@@ -4,19 +4,19 @@ use leaves::faults::Faults;
 use leaves::moments::Moment;
 use leaves::samples::Previous;
 use leaves::settings::Settings;
-use units::tests;
+use units::conditions;
 
 fn moments(a: Moment, b: Moment) -> bool {
     let set = a.set == b.set;
     let time = a.time.0 == b.time.0;
-    tests::both(set, time)
+    conditions::both(set, time)
 }
 
 fn settings(a: Settings, b: Settings) -> bool {
     let rated = a.rated.0 == b.rated.0;
     let pause = a.pause.0 == b.pause.0;
     let ventilation = a.ventilation == b.ventilation;
-    tests::all(rated, pause, ventilation)
+    conditions::all(rated, pause, ventilation)
 }
 
 fn faults(a: Faults, b: Faults) -> bool {
@@ -25,8 +25,8 @@ fn faults(a: Faults, b: Faults) -> bool {
     let three = a.residual == b.residual;
     let four = a.welded == b.welded;
     let five = a.temperature == b.temperature;
-    let later = tests::all(three, four, five);
-    tests::all(one, two, later)
+    let later = conditions::all(three, four, five);
+    conditions::all(one, two, later)
 }
 
 fn previous(a: Previous, b: Previous) -> bool {
@@ -35,8 +35,8 @@ fn previous(a: Previous, b: Previous) -> bool {
     let sound = a.verdict.sound == b.verdict.sound;
     let proven = a.verdict.proven == b.verdict.proven;
     let diodebad = a.verdict.diodebad == b.verdict.diodebad;
-    let verdicts = tests::all(sound, proven, diodebad);
-    tests::all(kept, band, verdicts)
+    let verdicts = conditions::all(sound, proven, diodebad);
+    conditions::all(kept, band, verdicts)
 }
 
 fn numbers(a: Controller, b: Controller) -> bool {
@@ -46,9 +46,9 @@ fn numbers(a: Controller, b: Controller) -> bool {
     let settled = a.settled == b.settled;
     let last = a.last.0 == b.last.0;
     let closings = a.closings == b.closings;
-    let first = tests::all(limit, wave, closed);
-    let rest = tests::all(settled, last, closings);
-    tests::both(first, rest)
+    let first = conditions::all(limit, wave, closed);
+    let rest = conditions::all(settled, last, closings);
+    conditions::both(first, rest)
 }
 
 fn times(a: Controller, b: Controller) -> bool {
@@ -56,8 +56,8 @@ fn times(a: Controller, b: Controller) -> bool {
     let opening = moments(a.opening, b.opening);
     let overrun = moments(a.overrun, b.overrun);
     let stop = moments(a.stop, b.stop);
-    let starts = tests::both(overrun, stop);
-    tests::all(sound, opening, starts)
+    let starts = conditions::both(overrun, stop);
+    conditions::all(sound, opening, starts)
 }
 
 pub fn controllers(a: Controller, b: Controller) -> bool {
@@ -66,6 +66,6 @@ pub fn controllers(a: Controller, b: Controller) -> bool {
     let sampled = previous(a.previous, b.previous);
     let counted = numbers(a, b);
     let timed = times(a, b);
-    let first = tests::all(set, latched, sampled);
-    tests::all(first, counted, timed)
+    let first = conditions::all(set, latched, sampled);
+    conditions::all(first, counted, timed)
 }

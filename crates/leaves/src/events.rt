@@ -8,7 +8,7 @@ use duty::Reading;
 use pilot::verdicts::Verdict;
 use units::Milliamps;
 use units::Millis;
-use units::tests;
+use units::conditions;
 use window::Weighed;
 ghost use mathlib.Core.Path.{_≡_};
 ghost use mathlib.Core.Bool.{cond};
@@ -85,7 +85,7 @@ pub fn verdict_of(event: Event, wave: u32, ventilation: bool) -> Verdict
     }
 }
 
-pub fn letter_if(first: bool, a: u8, b: u8) -> u8
+pub fn pick_settled(first: bool, a: u8, b: u8) -> u8
     ensures { λ r. ⌜ r ≡ cond first a b ⌝ }
 {
     if first { a } else { b }
@@ -96,14 +96,14 @@ pub fn settled_by(pair: Pair, settled: u8) -> u8
     ensures { λ r. ⌜ r ≡ settledBy (asPair pair) settled ⌝ }
 {
     let in_one = pair.in_one_band();
-    letter_if(in_one, pair.this.band, settled)
+    pick_settled(in_one, pair.this.band, settled)
 }
 
 // The time of the last sound sample.
 pub fn sound_by(now: Millis, pair: Pair, sound: Moment) -> Moment
     ensures { λ r. ⌜ asMoment r ≡ soundBy (now .0) (asPair pair) (asMoment sound) ⌝ }
 {
-    let is_sound = tests::both(pair.sampled, pair.this.sound);
+    let is_sound = conditions::both(pair.sampled, pair.this.sound);
     let here = Moment::set_to(now);
     moments::pick(is_sound, here, sound)
 }
@@ -191,7 +191,7 @@ fn measured(now: Millis, line: Milliamps, closed: bool, wave: u32, overrun: Mome
         ⌝ }
 {
     let driven = units::driven(wave);
-    let judges = tests::both(closed, driven);
+    let judges = conditions::both(closed, driven);
     judged_over(judges, now, line, wave, overrun)
 }
 

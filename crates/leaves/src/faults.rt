@@ -1,5 +1,5 @@
 // The latched faults.
-use units::tests;
+use units::conditions;
 ghost use mathlib.Core.Path.{_≡_};
 ghost use mathlib.Core.Bool.{_||_};
 ghost use lib.Dec.{eqb};
@@ -56,9 +56,9 @@ impl Faults {
     pub fn with_kind(self, kind: u32) -> Faults
         ensures { λ r. ⌜ asFaults r ≡ withKind kind (asFaults self) ⌝ }
     {
-        let residual = is_or(self.residual, kind, 3);
-        let welded = is_or(self.welded, kind, 4);
-        let temperature = is_or(self.temperature, kind, 5);
+        let residual = latched_or_told(self.residual, kind, 3);
+        let welded = latched_or_told(self.welded, kind, 4);
+        let temperature = latched_or_told(self.temperature, kind, 5);
         Faults {
             diode: self.diode,
             overcurrent: self.overcurrent,
@@ -81,8 +81,8 @@ impl Faults {
             }
             ⌝ }
     {
-        let one = tests::either(self.diode, diode);
-        let two = tests::either(self.overcurrent, overcurrent);
+        let one = conditions::either(self.diode, diode);
+        let two = conditions::either(self.overcurrent, overcurrent);
         Faults {
             diode: one,
             overcurrent: two,
@@ -113,7 +113,7 @@ impl Faults {
 }
 
 // Latched already, or the kind that is told.
-fn is_or(latched: bool, kind: u32, wanted: u32) -> bool
+fn latched_or_told(latched: bool, kind: u32, wanted: u32) -> bool
     ensures { λ r. ⌜ r ≡ latched || eqb kind wanted ⌝ }
 {
     if latched { true } else { kind == wanted }

@@ -58,7 +58,7 @@ impl Moment {
     }
 
     // No such time yet, or it lies that long ago or longer.
-    pub fn none_within(self, span: Millis, now: Millis) -> bool
+    pub fn none_or_at_least_ago(self, span: Millis, now: Millis) -> bool
         ensures { λ r. ⌜ r ≡ cond (self .set) (leb (self .time .0 + span .0) (now .0)) true ⌝ }
     {
         let ago = self.time.at_least_ago(span, now);
@@ -66,7 +66,7 @@ impl Moment {
     }
 
     // No such time yet, or it lies longer ago than that.
-    pub fn none_since(self, span: Millis, now: Millis) -> bool
+    pub fn none_or_more_than_ago(self, span: Millis, now: Millis) -> bool
         ensures { λ r. ⌜ r ≡ cond (self .set) (ltb (self .time .0 + span .0) (now .0)) true ⌝ }
     {
         let ago = self.time.more_than_ago(span, now);

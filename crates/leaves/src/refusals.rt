@@ -2,7 +2,7 @@
 use crate::events::Event;
 use units::Milliamps;
 use units::Millis;
-use units::tests;
+use units::conditions;
 use window::Weighed;
 ghost use mathlib.Core.Path.{_≡_};
 ghost use mathlib.Core.Bool.{cond};
@@ -28,7 +28,7 @@ pub fn number_if(refused: bool, number: u8) -> u8
     if refused { number } else { 0 }
 }
 
-pub fn number_unless(allowed: bool, number: u8) -> u8
+fn number_unless(allowed: bool, number: u8) -> u8
     ensures { λ r. ⌜ r ≡ cond allowed 0 number ⌝ }
 {
     if allowed { 0 } else { number }
@@ -68,18 +68,18 @@ pub fn limit_allowed(current: Milliamps) -> bool
     current.0 <= 80000
 }
 
-pub fn measure_allowed(current: Milliamps) -> bool
+fn measure_allowed(current: Milliamps) -> bool
     ensures { λ r. ⌜ r ≡ measureAllowed (current .0) ⌝ }
 {
     current.0 <= 200000
 }
 
-pub fn kind_allowed(kind: u32) -> bool
+fn kind_allowed(kind: u32) -> bool
     ensures { λ r. ⌜ r ≡ kindAllowed kind ⌝ }
 {
     let not_below = 3 <= kind;
     let not_above = kind <= 5;
-    tests::both(not_below, not_above)
+    conditions::both(not_below, not_above)
 }
 
 // The wave's range in a lent controller.
@@ -89,7 +89,7 @@ pub fn wave_allowed(wave: u32) -> bool
     let low = wave == 0;
     let driven = units::driven(wave);
     let high = wave == 1000;
-    tests::any_of(low, driven, high)
+    conditions::any_of(low, driven, high)
 }
 
 // The closings of a lent controller.

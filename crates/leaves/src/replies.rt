@@ -1,6 +1,6 @@
 // The reply: what is shown of a controller, beside the refusal number.
 use crate::waves;
-use units::tests;
+use units::conditions;
 ghost use mathlib.Core.Path.{_≡_};
 ghost use mathlib.Core.Bool.{_||_, cond};
 ghost use lib.Dec.{eqb};
@@ -65,7 +65,7 @@ pub fn digit(letter: u8, wave: u32) -> u8
     let u = letter == b'U';
     let e = letter == b'E';
     let f = letter == b'F';
-    let without = tests::any_of(u, e, f);
+    let without = conditions::any_of(u, e, f);
     digit_by(without, driven)
 }
 

@@ -1,6 +1,6 @@
 // This and the previous sample: two successive accepted samples with nothing forgotten between them.
 use pilot::verdicts::Verdict;
-use units::tests;
+use units::conditions;
 ghost use mathlib.Core.Path.{_≡_};
 ghost use mathlib.Core.Bool.{true, cond};
 ghost use Rattle.rules.specs.State.{noVerdict, forgotten};
@@ -67,7 +67,7 @@ fn same_band(a: u8, b: u8) -> bool
 {
     let none = a == 0;
     let same = a == b;
-    tests::both(!none, same)
+    conditions::both(!none, same)
 }
 
 impl Pair {
@@ -75,7 +75,7 @@ impl Pair {
     fn paired(self) -> bool
         ensures { λ r. ⌜ r ≡ paired (asPair self) ⌝ }
     {
-        tests::both(self.sampled, self.previous.kept)
+        conditions::both(self.sampled, self.previous.kept)
     }
 
     pub fn in_one_band(self) -> bool
@@ -83,7 +83,7 @@ impl Pair {
     {
         let paired = self.paired();
         let same = same_band(self.previous.verdict.band, self.this.band);
-        tests::both(paired, same)
+        conditions::both(paired, same)
     }
 
     // Both proven in the same band.
@@ -91,20 +91,20 @@ impl Pair {
         ensures { λ r. ⌜ r ≡ bothProven (asPair self) ⌝ }
     {
         let in_one = self.in_one_band();
-        tests::all(in_one, self.previous.verdict.proven, self.this.proven)
+        conditions::all(in_one, self.previous.verdict.proven, self.this.proven)
     }
 
     pub fn both_diode_bad(self) -> bool
         ensures { λ r. ⌜ r ≡ bothDiodeBad (asPair self) ⌝ }
     {
         let paired = self.paired();
-        tests::all(paired, self.previous.verdict.diodebad, self.this.diodebad)
+        conditions::all(paired, self.previous.verdict.diodebad, self.this.diodebad)
     }
 
     pub fn both_unsound(self) -> bool
         ensures { λ r. ⌜ r ≡ bothUnsound (asPair self) ⌝ }
     {
         let paired = self.paired();
-        tests::neither(paired, self.previous.verdict.sound, self.this.sound)
+        conditions::only(paired, self.previous.verdict.sound, self.this.sound)
     }
 }

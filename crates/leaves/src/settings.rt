@@ -2,7 +2,7 @@
 use crate::refusals;
 use units::Milliamps;
 use units::Millis;
-use units::tests;
+use units::conditions;
 ghost use mathlib.Core.Path.{_≡_};
 ghost use mathlib.Core.Bool.{cond};
 ghost use lib.Dec.{eqb};
@@ -22,7 +22,7 @@ pub fn rated_allowed(rated: Milliamps) -> bool
 {
     let not_below = 6000 <= rated.0;
     let not_above = rated.0 <= 80000;
-    tests::both(not_below, not_above)
+    conditions::both(not_below, not_above)
 }
 
 // The range of a pause in force.
@@ -31,21 +31,28 @@ pub fn pause_allowed(pause: Millis) -> bool
 {
     let not_below = 1000 <= pause.0;
     let not_above = pause.0 <= 60000;
-    tests::both(not_below, not_above)
+    conditions::both(not_below, not_above)
 }
 
-pub fn no_pause(pause: Millis) -> bool
+// 0 asks for the default.
+fn asks_default(pause: Millis) -> bool
     ensures { λ r. ⌜ r ≡ eqb (pause .0) 0 ⌝ }
 {
     pause.0 == 0
 }
 
+fn pick(first: bool, a: Millis, b: Millis) -> Millis
+    ensures { λ r. ⌜ r .0 ≡ cond first (a .0) (b .0) ⌝ }
+{
+    if first { a } else { b }
+}
+
 // The pause in force: 0 means 3,000.
-pub fn pause_for(pause: Millis) -> Millis
+fn pause_for(pause: Millis) -> Millis
     ensures { λ r. ⌜ r .0 ≡ pauseFor (pause .0) ⌝ }
 {
-    let none = pause.0 == 0;
-    if none { Millis(3000) } else { pause }
+    let default = asks_default(pause);
+    pick(default, Millis(3000), pause)
 }
 
 // The settings with the pause in force.
@@ -79,9 +86,9 @@ pub fn begin_refusal(now: Millis, given: Settings) -> u8
 {
     let late = refusals::too_late(now);
     let rated = rated_allowed(given.rated);
-    let none = no_pause(given.pause);
+    let default = asks_default(given.pause);
     let pause = pause_allowed(given.pause);
-    let either = tests::either(none, pause);
-    let fine = tests::both(rated, either);
+    let either = conditions::either(default, pause);
+    let fine = conditions::both(rated, either);
     begin_number(late, fine)
 }

@@ -4,7 +4,7 @@ use crate::moments::Moment;
 use duty::Greatest;
 use units::Milliamps;
 use units::Millis;
-use units::tests;
+use units::conditions;
 ghost use mathlib.Core.Path.{_≡_};
 ghost use mathlib.Core.Bool.{_&&_, _||_, not, cond};
 ghost use lib.Dec.{eqb, ltb};
@@ -20,7 +20,7 @@ pub fn is_letter(settled: u8) -> bool
 {
     let not_below = b'A' <= settled;
     let not_above = settled <= b'E';
-    tests::both(not_below, not_above)
+    conditions::both(not_below, not_above)
 }
 
 // Settled U, A or E.
@@ -30,7 +30,7 @@ fn is_u_a_or_e(settled: u8) -> bool
     let letter = is_letter(settled);
     let a = settled == b'A';
     let e = settled == b'E';
-    tests::any_of(!letter, a, e)
+    conditions::any_of(!letter, a, e)
 }
 
 // Settled D without ventilation.
@@ -38,7 +38,7 @@ pub fn unventilated_d(settled: u8, ventilation: bool) -> bool
     ensures { λ r. ⌜ r ≡ eqb settled bandD && not ventilation ⌝ }
 {
     let d = settled == b'D';
-    tests::both(d, !ventilation)
+    conditions::both(d, !ventilation)
 }
 
 // No duty is sent, though there is no fault.
@@ -48,7 +48,7 @@ fn held_high(available: Milliamps, settled: u8, ventilation: bool) -> bool
     let too_low = available.below(Milliamps(6000));
     let idle = is_u_a_or_e(settled);
     let unventilated = unventilated_d(settled, ventilation);
-    tests::any_of(too_low, idle, unventilated)
+    conditions::any_of(too_low, idle, unventilated)
 }
 
 // The duty that is sent; where there is none the wave stays high.
@@ -116,6 +116,6 @@ pub fn stop_under(now: Millis, wave: u32, closed: bool, stop: Moment) -> Moment
     let none = Moment::empty();
     let unless_driven = moments::pick(driven, none, stop);
     let runs = stop.started_by(now);
-    let starts = tests::both(closed, high);
+    let starts = conditions::both(closed, high);
     moments::pick(starts, runs, unless_driven)
 }

@@ -1,7 +1,7 @@
 // The verdicts on a sample.
 use crate::bands;
 use units::Millivolts;
-use units::tests;
+use units::conditions;
 ghost use mathlib.Core.Path.{_≡_};
 ghost use mathlib.Core.Bool.{_&&_, _||_, not};
 ghost use Rattle.pilot.specs.Verdicts.{sound, proven, diodeBad, verdictOf};
@@ -53,7 +53,7 @@ pub fn proven(wave: u32, high: Millivolts, low: Millivolts, ventilation: bool) -
     let band = bands::band(high);
     let ready = bands::ready(band, ventilation);
     let low_in_band = bands::in_low_band(low);
-    tests::all(driven, ready, low_in_band)
+    conditions::all(driven, ready, low_in_band)
 }
 
 // Diode-bad: a driven wave shows a van that is plugged in, and no diode.

@@ -1,6 +1,6 @@
 // The units of the control pilot: level, current and time. Each is a type of its own, so that the compiler refuses one in the
 // place of another. A duty, and so a wave command, is a plain number: tenths of a percent.
-pub mod tests; // tests.rt: tests put together
+pub mod conditions; // conditions.rt: conditions put together
 
 ghost use mathlib.Core.Path.{_≡_};
 ghost use mathlib.Core.Bool.{cond};
@@ -47,7 +47,7 @@ impl Millivolts {
     {
         let not_below = self.at_least(from);
         let not_above = to.at_least(self);
-        tests::both(not_below, not_above)
+        conditions::both(not_below, not_above)
     }
 
     // Between two levels; the ends do not belong.
@@ -56,7 +56,7 @@ impl Millivolts {
     {
         let above = self.above(from);
         let below = to.above(self);
-        tests::both(above, below)
+        conditions::both(above, below)
     }
 
     pub fn higher(self, other: Millivolts) -> Millivolts

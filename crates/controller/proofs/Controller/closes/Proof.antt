@@ -7,7 +7,7 @@ use Rattle.controller.proofs.Controller.closes.Tie as tie
 returns : tie.Need-returns
 unfolding closes rested
 returns c =
-    c .all2 .ensures ∙ rw (c .before .before .all .ensures, c .before .before .before .none-within .ensures, c .before .before .before .before .both-proven .ensures, c .before .before .before .before .before .driven .ensures)
+    c .all2 .ensures ∙ rw (c .before .before .all .ensures, c .before .before .before .none-or-at-least-ago .ensures, c .before .before .before .before .both-proven .ensures, c .before .before .before .before .before .driven .ensures)
 
 pub closes-spec : {M : Type 1} → statement M
 closes-spec = tie.close (tie.spec (λ c κs. tt) (λ c κs. tt) (λ c κs. tt) (λ c κs. tt) (λ c κs. tt) returns)

@@ -5,4 +5,4 @@ use Rattle.leaves.proofs.settings.pause_for.Tie as tie
 
 pub pause-for-spec : {M : Type 1} → statement M
 unfolding pauseFor
-pause-for-spec = tie.close (tie.spec (λ c. cc) (λ c. cc))
+pause-for-spec = tie.close (tie.spec (λ c κs. tt) (λ c κs. tt) (λ c. cc))

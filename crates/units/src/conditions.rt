@@ -1,4 +1,4 @@
-// Tests put together.
+// Conditions put together.
 ghost use mathlib.Core.Path.{_≡_};
 ghost use mathlib.Core.Bool.{_&&_, _||_, not};
 
@@ -21,7 +21,7 @@ pub fn all(a: bool, b: bool, c: bool) -> bool
 }
 
 // The first, and neither of the others.
-pub fn neither(a: bool, b: bool, c: bool) -> bool
+pub fn only(a: bool, b: bool, c: bool) -> bool
     ensures { λ r. ⌜ r ≡ a && (not b && not c) ⌝ }
 {
     if a { if b { false } else { !c } } else { false }
