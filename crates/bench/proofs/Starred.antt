@@ -9,6 +9,7 @@ use Rattle.duty.specs.Reading.{readingOf}
 use Rattle.pilot.specs.Bands.{bandOf}
 use Rattle.pilot.specs.Verdicts.{sound}
 use Rattle.rules.specs.Answer.{lentAfter}
+use Rattle.rules.specs.Begin.{ratedAllowed, beginRefusal}
 use Rattle.rules.specs.BenchRows.{firstCharge}
 use Rattle.rules.specs.Calls.{Call, inTurn}
 use Rattle.rules.specs.Reply.{letterU, shown}
@@ -16,6 +17,7 @@ use Rattle.rules.specs.Sequences.{callOf, repliesTo, at32A}
 use Rattle.rules.proofs.BenchRows.{first-charge}
 use Rattle.rules.proofs.Sequences.{computed, lent-on}
 use Rattle.claim.proofs.EveryRun.{begun-told, replies-told, final-told}
+use Rattle.claim.proofs.Exists.{has-run}
 use Rattle.bench.specs.Starred.{Holds, AllHold, charged, firstChargeRun, starred}
 
 abbrev calls : List Call
@@ -33,12 +35,19 @@ begun-computed : shown 0 (at32A 0) ≡ record { refusal = 0; letter = letterU; d
 unfolding computed
 begun-computed = refl
 
+begin-right : beginRefusal (record { time = 0; rated = 32000; pause = 0; ventilation = false }) ≡ 0
+unfolding beginRefusal ratedAllowed fromTo
+begin-right = refl
+
 -- what a run tells is what the definitions tell (crate claim), and that is computed
 run-tells : Holds firstChargeRun
-run-tells begun replies final run = (
-  begun-told _ calls begun replies final run ∙ begun-computed,
-  replies-told _ calls begun replies final run ∙ replies-computed,
-  final-told _ calls begun replies final run ∙ final-computed,
+run-tells = (
+  λ lent. has-run lent _ calls begin-right,
+  λ begun replies final run. (
+    begun-told _ calls begun replies final run ∙ begun-computed,
+    replies-told _ calls begun replies final run ∙ replies-computed,
+    final-told _ calls begun replies final run ∙ final-computed,
+  ),
 )
 
 pub starred-hold : AllHold starred

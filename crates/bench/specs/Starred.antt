@@ -18,7 +18,7 @@ use Rattle.leaves.specs.declared.replies.Reply.{Reply as Told}
 use Rattle.leaves.specs.Views.{asReply}
 use Rattle.controller.specs.declared.Controller.{Controller}
 use Rattle.controller.specs.View.{view}
-use Rattle.claim.specs.Run.{Run}
+use Rattle.claim.specs.Run.{Run, HasRun}
 
 -- a row of the bench figures
 pub data Row : Type 0 where
@@ -30,7 +30,7 @@ pub data Row : Type 0 where
   hasBand : ℤ → ℕ → Row
   -- a high level that makes a sample unsound, whatever the wave and the low level
   unsound : ℤ → Row
-  -- begin's values and reply, calls with windows of 256 readings and their replies, and the controller after them: so in every run
+  -- begin's values and reply, calls with windows of 256 readings and their replies, and the controller after them: there are runs, and so it is in each
   runs : Begin → Reply → List Entry → Lent → Row
 
 abbrev pub Holds : Row → Type 0
@@ -39,9 +39,10 @@ Holds (reads d reading) = readingOf d ≡ reading
 Holds (hasBand high band) = bandOf high ≡ band
 Holds (unsound high) = (wave : ℕ) (low : ℤ) → sound wave high low ≡ false
 Holds (runs begin first entries after) =
-    (begun : Told) (replies : List Told) (final : Controller)
+    ((lent : Controller) → HasRun lent begin (map (λ entry. callOf (entry .brief)) entries))
+    × ((begun : Told) (replies : List Told) (final : Controller)
     → Run begin (map (λ entry. callOf (entry .brief)) entries) begun replies final
-    → (asReply begun ≡ first) × (map asReply replies ≡ map (λ entry. entry .reply) entries) × (view final ≡ after)
+    → (asReply begun ≡ first) × (map asReply replies ≡ map (λ entry. entry .reply) entries) × (view final ≡ after))
 
 -- the controller after the starred sequence: opened at 121, sound last at 40
 abbrev pub charged : Lent

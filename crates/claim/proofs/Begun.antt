@@ -1,4 +1,4 @@
--- What an accepted begin hands back.
+-- What begin hands back: accepted, the fresh controller; refused, the lent one.
 use mathlib.Core.Path.{_≡_, refl, sym, _∙_, ap}
 use mathlib.Core.Bool.{Bool, true, false, cond}
 use Prim.Native.Nat.{ℕ}
@@ -8,21 +8,38 @@ use Rattle.rules.specs.Answer.{Answer, begun, alone, answerToBegin}
 use Rattle.rules.specs.Begin.{Begin, beginRefusal}
 use Rattle.rules.specs.Lent.{Lent}
 use Rattle.rules.specs.Reply.{shown}
-use Rattle.rules.proofs.Booleans.{clash}
+use Rattle.leaves.specs.declared.replies.Reply.{Reply}
+use Rattle.leaves.specs.Views.{asReply}
+use Rattle.controller.specs.declared.Controller.{Controller}
+use Rattle.controller.specs.Answers.{handedBack, Begins}
+use Rattle.controller.specs.View.{view}
+use Rattle.controller.proofs.Fixes.{view-fixes}
 
--- no begin that replies 0 is refused
-module _ (lent : Lent) (begin : Begin) (back : Answer) (is : back ≡ answerToBegin lent begin) (into : _≡_ {A = ℕ} (back .reply .refusal) 0) where
+-- by whether the table refuses it; a begin that replies 0 is not refused
+module _ (lent : Lent) (begin : Begin) (back : Answer) (is : back ≡ answerToBegin lent begin) where
   by : (a : Bool) → eqb (beginRefusal begin) 0 ≡ a
       → back ≡ cond a (record { lent = begun begin; reply = shown 0 (begun begin) }) (record { lent = lent; reply = alone (beginRefusal begin) })
   unfolding answerToBegin
   by a e = is ∙ ap (λ b. cond b (record { lent = begun begin; reply = shown 0 (begun begin) }) (record { lent = lent; reply = alone (beginRefusal begin) })) e
 
-  pub begin-accepted : beginRefusal begin ≡ 0
-  begin-accepted = go (eqb (beginRefusal begin) 0) refl
+  pub begin-accepted : _≡_ {A = ℕ} (back .reply .refusal) 0 → beginRefusal begin ≡ 0
+  begin-accepted into = go (eqb (beginRefusal begin) 0) refl
     where
       go : (a : Bool) → eqb (beginRefusal begin) 0 ≡ a → beginRefusal begin ≡ 0
       go true e = eqb-true (beginRefusal begin) 0 e
       go false e = sym (ap (λ b. b .reply .refusal) (by false e)) ∙ into
 
-  pub begun-is : back ≡ record { lent = begun begin; reply = shown 0 (begun begin) }
-  begun-is = by true (ap (λ n. eqb n 0) begin-accepted)
+  pub begun-is : _≡_ {A = ℕ} (back .reply .refusal) 0 → back ≡ record { lent = begun begin; reply = shown 0 (begun begin) }
+  begun-is into = by true (ap (λ n. eqb n 0) (begin-accepted into))
+
+-- a refused begin leaves the list as it was: the host still has the controller that it lent, and the number came alone
+pub refused-begin : (begin : Begin) (before : Controller) (reply : Reply) (after : Controller) → Begins begin before reply after
+    → (_≡_ {A = ℕ} (reply .refusal) 0 → ⊥) → (after ≡ before) × (asReply reply ≡ alone (beginRefusal begin))
+unfolding answerToBegin
+refused-begin begin before reply after begins refused = go (eqb (beginRefusal begin) 0) refl
+  where
+    go : (a : Bool) → eqb (beginRefusal begin) 0 ≡ a → (after ≡ before) × (asReply reply ≡ alone (beginRefusal begin))
+    go true e = absurd (refused (ap (λ b. b .reply .refusal) (by (view before) begin (handedBack reply after) begins true e)))
+    go false e =
+        let is = by (view before) begin (handedBack reply after) begins false e in
+        (view-fixes after before (ap (λ b. b .lent) is), ap (λ b. b .reply) is)

@@ -8,6 +8,7 @@ use lib.Seq.{take-length}
 use Rattle.rules.specs.Answer.{begun, replyTo, lentAfter}
 use Rattle.rules.specs.Begin.{Begin, beginRefusal}
 use Rattle.rules.specs.Calls.{Call}
+use Rattle.rules.specs.Lent.{altered}
 use Rattle.rules.specs.Replay.{replay}
 use Rattle.rules.specs.Reply.{shown}
 use Rattle.rules.specs.Sequences.{repliesTo}
@@ -65,6 +66,7 @@ module _ (begin : Begin) (calls : List Call) (begins : Reply) (replies : List Re
             ap (λ l. l .closings) final-lent ∙ list .carried (length calls) (omega arith) ∙ sym (ap (λ r. r .closings) whole);
         all-kept =
             ap (λ l. l .kept) final-lent ∙ list .kept (length calls) (omega arith) ∙ ap (λ l. replay begin l) (take-length calls);
+        not-altered = ap altered final-lent ∙ list .not-altered (length calls) (omega arith);
         replies-are = replies-are;
         demand3 =
             demand3-replied begin calls accepted (λ k. told begins replies k .closed) (λ k. told begins replies k .closings)

@@ -1,4 +1,4 @@
--- Every accepted begin and every list of calls has a run, whatever controller is lent to begin: what is claimed of runs is not empty.
+-- Every accepted begin and every list of calls has a run, with any controller lent to begin: what is claimed of runs is not empty.
 use mathlib.Core.Path.{_≡_, refl, sym, ap}
 use mathlib.Core.Bool.{cond}
 use mathlib.Core.List.{List, [], _∷_}
@@ -24,13 +24,14 @@ unfolding repliesOf inTurn
 lends-all lent [] = refl
 lends-all lent (call ∷ calls) = (controllerOf (next lent (heard call)), refl, lends-all (next lent (heard call)) calls)
 
-pub has-run : (lent : Controller) (begin : Begin) (calls : List Call) → beginRefusal begin ≡ 0 → HasRun begin calls
+pub has-run : (lent : Controller) (begin : Begin) (calls : List Call) → beginRefusal begin ≡ 0 → HasRun lent begin calls
 unfolding answerToBegin
 has-run lent begin calls accepted = (
   replyOf (shown 0 (begun begin)),
   repliesOf (begun begin) calls,
   controllerOf (lentAfter (begun begin) calls),
   record { lent = lent; fresh = controllerOf (begun begin); begins = begins; accepted = refl; lends = lends-all (begun begin) calls },
+  refl,
 )
   where
     begins : record { lent = begun begin; reply = shown 0 (begun begin) } ≡ answerToBegin (view lent) begin

@@ -1,18 +1,20 @@
 -- Demand 3, whole: one proposition over begin's values, the calls, the replies and the final controller (proved in proofs/EveryRun.antt).
 use mathlib.Core.Path.{_≡_}
+use mathlib.Core.Bool.{false}
 use mathlib.Core.List.{List, _∷_}
 use Prim.Native.Nat.{ℕ, suc, _≤_, _<_}
 use lib.ListN.{length, getD}
 use Rattle.rules.specs.Begin.{Begin}
 use Rattle.rules.specs.Calls.{Call}
 use Rattle.rules.specs.Claim.{Demand3}
+use Rattle.rules.specs.Lent.{altered}
 use Rattle.rules.specs.Refusals.{refusal}
 use Rattle.rules.specs.Replay.{replay}
 use Rattle.rules.specs.Traces.{before, callAt, traceOf, replyBefore}
 use Rattle.leaves.specs.declared.replies.Reply.{Reply}
 use Rattle.leaves.specs.Views.{asReply}
 use Rattle.controller.specs.declared.Controller.{Controller}
-use Rattle.controller.specs.View.{kept}
+use Rattle.controller.specs.View.{kept, view}
 
 -- the reply before call k: begin's, or that of the call before it
 abbrev pub told : Reply → List Reply → ℕ → Reply
@@ -28,6 +30,8 @@ pub record EveryRun (begin : Begin) (calls : List Call) (begun : Reply) (replies
   pub contactor-held : final .closed ≡ told begun replies (length calls) .closed
   pub closings-held : final .closings ≡ told begun replies (length calls) .closings
   pub all-kept : kept final ≡ replay begin calls
+  -- and refusal 1 does not name it
+  pub not-altered : altered (view final) ≡ false
   -- every reply, whole, follows from begin's values and the calls
   pub replies-are : (k : ℕ) → k ≤ length calls → asReply (told begun replies k) ≡ replyBefore begin calls k
   -- closed exactly when; two proven samples; opening and pause between; the count; the span: rules/specs/Claim.antt, on what was told

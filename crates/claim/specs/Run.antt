@@ -25,6 +25,7 @@ pub record Run (begin : Begin) (calls : List Call) (begun : Reply) (replies : Li
   pub accepted : _≡_ {A = ℕ} (begun .refusal) 0
   pub lends : Lends fresh calls replies final
 
--- the calls can be made: some replies and some final controller
-abbrev pub HasRun : Begin → List Call → Type 0
-HasRun begin calls = (begun : Reply) × (replies : List Reply) × (final : Controller) × Run begin calls begun replies final
+-- there is a run, with this controller lent to begin
+abbrev pub HasRun : Controller → Begin → List Call → Type 0
+HasRun lent begin calls =
+    (begun : Reply) × (replies : List Reply) × (final : Controller) × (run : Run begin calls begun replies final) × (run .lent ≡ lent)

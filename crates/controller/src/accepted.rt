@@ -13,7 +13,7 @@ ghost use Rattle.controller.specs.View.{kept, view, onAccepted, heardAt}
 
 impl Controller {
     // The call's own sample, and the previous one as the call finds it.
-    pub fn pair(self, event: Event) -> Pair
+    pub(crate) fn pair(self, event: Event) -> Pair
         ensures { λ r. ⌜ asPair r ≡ pairOf (kept self) (asEvent event) ⌝ }
     {
         let sampled = events::is_sample(event);
@@ -26,7 +26,7 @@ impl Controller {
         }
     }
 
-    pub fn accepted(self, now: Millis, event: Event) -> Controller
+    pub(crate) fn accepted(self, now: Millis, event: Event) -> Controller
         ensures { λ r. ⌜ view r ≡ onAccepted (heardAt now event) (view self) ⌝ }
     {
         let pair = self.pair(event);
@@ -43,7 +43,7 @@ impl Controller {
     }
 
     // Unchanged unless the call is accepted.
-    pub fn after(self, accepted: bool, now: Millis, event: Event) -> Controller
+    pub(crate) fn after(self, accepted: bool, now: Millis, event: Event) -> Controller
         ensures { λ r. ⌜ view r ≡ cond accepted (onAccepted (heardAt now event) (view self)) (view self) ⌝ }
     {
         if accepted {

@@ -10,7 +10,7 @@ ghost use Rattle.controller.specs.View.{view, heardAt};
 
 impl Controller {
     // Accepted, the next controller and what is shown of it; refused, this one and its own, beside the number.
-    pub fn answer(self, now: Millis, event: Event) -> Answer
+    pub(crate) fn answer(self, now: Millis, event: Event) -> Answer
         ensures { λ r. ⌜ handedBack (r .reply) (r .controller) ≡ answerTo (view self) (heardAt now event) ⌝ }
     {
         let number = self.refusal(now, event);

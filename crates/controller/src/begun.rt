@@ -73,7 +73,7 @@ impl Controller {
     }
 
     // Accepted, the fresh controller and what is shown of it; refused, this one, and the number alone.
-    pub fn begin(self, now: Millis, given: Settings) -> Answer
+    pub(crate) fn begin(self, now: Millis, given: Settings) -> Answer
         ensures { λ r. ⌜ handedBack (r .reply) (r .controller) ≡ answerToBegin (view self) (beginsWith now given) ⌝ }
     {
         let number = settings::begin_refusal(now, given);

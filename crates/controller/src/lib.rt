@@ -50,8 +50,7 @@ pub struct Answer {
     pub reply: Reply,
 }
 
-// Begin makes a fresh controller. Where it is refused the lent one stays, and the refusal comes alone.
-// A pause of 0 means 3,000.
+// Starts afresh with these settings; a pause of 0 stands for 3,000 ms. Refused, it hands back the lent controller, and the number without a reply.
 pub fn begin(c: Controller, time: u64, rated: u32, pause: u64, ventilation: bool) -> Answer
     ensures { λ r. ⌜ Begins (record { time = time; rated = rated; pause = pause; ventilation = ventilation }) c (r .reply) (r .controller) ⌝ }
 {
@@ -92,14 +91,14 @@ pub fn fault(c: Controller, time: u64, kind: u32) -> Answer
     c.answer(Millis(time), Event::Fault(kind))
 }
 
-// Drops every latched fault.
+// The faults are over.
 pub fn clear(c: Controller, time: u64) -> Answer
     ensures { λ r. ⌜ Answers (record { time = time; event = clear }) c (r .reply) (r .controller) ⌝ }
 {
     c.answer(Millis(time), Event::Clear)
 }
 
-// The time, and nothing else.
+// Nothing but the time.
 pub fn tick(c: Controller, time: u64) -> Answer
     ensures { λ r. ⌜ Answers (record { time = time; event = tick }) c (r .reply) (r .controller) ⌝ }
 {

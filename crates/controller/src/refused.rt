@@ -35,7 +35,7 @@ impl Controller {
     }
 
     // The host has altered it: no list of calls leads here.
-    pub fn altered(self) -> bool
+    pub(crate) fn altered(self) -> bool
         ensures { λ r. ⌜ r ≡ altered (view self) ⌝ }
     {
         let ranges = self.in_range();
@@ -45,7 +45,7 @@ impl Controller {
     }
 
     // 3, then 2, then 1, then 4 to 8; 0 if the call is accepted.
-    pub fn refusal(self, now: Millis, event: Event) -> u8
+    pub(crate) fn refusal(self, now: Millis, event: Event) -> u8
         ensures { λ r. ⌜ r ≡ lentRefusal (view self) (heardAt now event) ⌝ }
     {
         let by_time = refusals::time_refusal(self.last, now);

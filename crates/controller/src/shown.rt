@@ -9,7 +9,7 @@ ghost use Rattle.controller.specs.View.{view};
 
 impl Controller {
     // The reply, beside the refusal number.
-    pub fn reply(self, number: u8) -> Reply
+    pub(crate) fn reply(self, number: u8) -> Reply
         ensures { λ r. ⌜ asReply r ≡ shown number (view self) ⌝ }
     {
         let faulted = self.faults.any();

@@ -1,4 +1,4 @@
-// The steps of an accepted call. Each takes the controller and hands the next one back.
+// The five steps of an accepted call, and its end: methods that take the controller by value and return it.
 use crate::Controller;
 use leaves::counts;
 use leaves::events;
@@ -22,7 +22,7 @@ ghost use Rattle.controller.specs.View.{kept, view, onKept, onClosing};
 
 impl Controller {
     // Step 1: its event.
-    pub fn event(mut self, now: Millis, event: Event, pair: Pair) -> Controller
+    pub(crate) fn event(mut self, now: Millis, event: Event, pair: Pair) -> Controller
         ensures { λ r. ⌜ view r ≡ onKept (stepEvent (now .0) (asEvent event) (asPair pair)) (view self) ⌝ }
     {
         let limit = events::limit_by(event, self.limit);
@@ -39,14 +39,14 @@ impl Controller {
     }
 
     // The over-run has lasted for 5,000 or longer.
-    pub fn over_current(self, now: Millis) -> bool
+    pub(crate) fn over_current(self, now: Millis) -> bool
         ensures { λ r. ⌜ r ≡ overCurrent (now .0) (kept self) ⌝ }
     {
         self.overrun.ran_for(Millis(5000), now)
     }
 
     // Something latches, or a latched fault is told again.
-    pub fn unsettles(self, faultcall: bool, now: Millis, pair: Pair) -> bool
+    pub(crate) fn unsettles(self, faultcall: bool, now: Millis, pair: Pair) -> bool
         ensures { λ r. ⌜ r ≡ unsettles faultcall (now .0) (asPair pair) (kept self) ⌝ }
     {
         let diode = pair.both_diode_bad();
@@ -55,7 +55,7 @@ impl Controller {
     }
 
     // Step 2: latches.
-    pub fn latch(mut self, faultcall: bool, now: Millis, pair: Pair) -> Controller
+    pub(crate) fn latch(mut self, faultcall: bool, now: Millis, pair: Pair) -> Controller
         ensures { λ r. ⌜ view r ≡ onKept (stepLatch faultcall (now .0) (asPair pair)) (view self) ⌝ }
     {
         let unsettles = self.unsettles(faultcall, now, pair);
@@ -72,7 +72,7 @@ impl Controller {
     }
 
     // Step 3: the wave, and the stop that follows from it.
-    pub fn wave(mut self, now: Millis) -> Controller
+    pub(crate) fn wave(mut self, now: Millis) -> Controller
         ensures { λ r. ⌜ view r ≡ onKept (stepWave (now .0)) (view self) ⌝ }
     {
         let faulted = self.faults.any();
@@ -87,7 +87,7 @@ impl Controller {
     }
 
     // An opening cause holds: i, ii, iii, iv or v.
-    pub fn cause(self, now: Millis, pair: Pair) -> bool
+    pub(crate) fn cause(self, now: Millis, pair: Pair) -> bool
         ensures { λ r. ⌜ r ≡ cause (now .0) (asPair pair) (kept self) ⌝ }
     {
         let one = pair.both_unsound();
@@ -100,7 +100,7 @@ impl Controller {
     }
 
     // This call opens the contactor.
-    pub fn opens(self, now: Millis, pair: Pair) -> bool
+    pub(crate) fn opens(self, now: Millis, pair: Pair) -> bool
         ensures { λ r. ⌜ r ≡ opens (now .0) (asPair pair) (kept self) ⌝ }
     {
         let holds = self.cause(now, pair);
@@ -108,7 +108,7 @@ impl Controller {
     }
 
     // Step 4: opening.
-    pub fn opening(mut self, now: Millis, pair: Pair) -> Controller
+    pub(crate) fn opening(mut self, now: Millis, pair: Pair) -> Controller
         ensures { λ r. ⌜ view r ≡ onKept (stepOpening (now .0) (asPair pair)) (view self) ⌝ }
     {
         let opens = self.opens(now, pair);
@@ -129,7 +129,7 @@ impl Controller {
     }
 
     // Every closing condition is met.
-    pub fn closes(self, opened: bool, now: Millis, pair: Pair) -> bool
+    pub(crate) fn closes(self, opened: bool, now: Millis, pair: Pair) -> bool
         ensures { λ r. ⌜ r ≡ closes opened (now .0) (asPair pair) (kept self) ⌝ }
     {
         let driven = units::driven(self.wave);
@@ -140,7 +140,7 @@ impl Controller {
     }
 
     // Step 5: closing.
-    pub fn closing(mut self, opened: bool, now: Millis, pair: Pair) -> Controller
+    pub(crate) fn closing(mut self, opened: bool, now: Millis, pair: Pair) -> Controller
         ensures { λ r. ⌜ view r ≡ onClosing opened (now .0) (asPair pair) (view self) ⌝ }
     {
         let closes = self.closes(opened, now, pair);
@@ -152,7 +152,7 @@ impl Controller {
     }
 
     // The end of a call: its time stays, and so does its sample, unless the call forgot.
-    pub fn end(mut self, forgot: bool, now: Millis, pair: Pair) -> Controller
+    pub(crate) fn end(mut self, forgot: bool, now: Millis, pair: Pair) -> Controller
         ensures { λ r. ⌜ view r ≡ onKept (stepEnd forgot (now .0) (asPair pair)) (view self) ⌝ }
     {
         let keeps = conditions::both(pair.sampled, !forgot);
