@@ -28,4 +28,5 @@ pub mod OtherRows
 pub mod StateRows
 pub mod RangeRows
 pub mod RefusalsAre
+pub mod BeginRefusals
 pub mod Apart

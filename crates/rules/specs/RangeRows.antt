@@ -83,6 +83,7 @@ outside =
     ∷ lent 1000 0 80001 1000 50 empty empty empty empty 0
     ∷ lent 1000 0 6000 999 50 empty empty empty empty 0
     ∷ lent 1000 0 6000 60001 50 empty empty empty empty 0
+    ∷ lent 1000 0 6000 0 50 empty empty empty empty 0
     ∷ lent 1000 0 6000 1000 50 (setTo 51) empty empty empty 0
     ∷ lent 1000 0 6000 1000 50 empty (setTo 51) empty empty 0
     ∷ lent 1000 0 6000 1000 50 empty empty (setTo 51) empty 0

@@ -1,5 +1,5 @@
--- When each refusal number comes, exactly: demand 1 of a call that is lent any controller, altered or not.
--- Proved in proofs/RefusalsAre.antt.
+-- When each refusal number comes, exactly: demand 1 of begin, and of a call that is lent any controller, altered or not.
+-- Proved in proofs/RefusalsAre.antt and proofs/BeginRefusals.antt.
 use mathlib.Core.Path.{_≡_}
 use mathlib.Core.Bool.{true, false}
 use mathlib.Core.List.{List}
@@ -7,7 +7,7 @@ use mathlib.Core.Logic.{_↔_, _⊎_}
 use Prim.Native.Nat.{ℕ, _≤_, _<_}
 use lib.IntN.{ℤ}
 use Rattle.window.specs.Weighing.{refused, weighing}
-use Rattle.rules.specs.Begin.{largestTime}
+use Rattle.rules.specs.Begin.{Begin, largestTime, beginRefusal}
 use Rattle.rules.specs.Calls.{Event, Call, sample, limit, measure, fault, clear, tick, heard}
 use Rattle.rules.specs.Lent.{Lent, altered, lentRefusal}
 
@@ -30,3 +30,14 @@ pub record RefusalsAre (lent : Lent) (call : Call) : Type 0 where
   pub one : (lentRefusal lent (heard call) ≡ 1) ↔ (OnTime lent call × (altered lent ≡ true))
   pub later : (number : ℕ) → 4 ≤ number
       → (lentRefusal lent (heard call) ≡ number) ↔ (OnTime lent call × (altered lent ≡ false) × WrongFor number (call .event))
+
+-- outside of a range
+abbrev pub Outside : ℕ → ℕ → ℕ → Type 0
+Outside from to n = (n < from) ⊎ (to < n)
+
+-- begin: 1 for a rated current, or a pause other than 0, that is out of its range
+pub record BeginRefusalsAre (begin : Begin) : Type 0 where
+  pub three : (beginRefusal begin ≡ 3) ↔ (largestTime < begin .time)
+  pub one : (beginRefusal begin ≡ 1)
+      ↔ ((begin .time ≤ largestTime) × (Outside 6000 80000 (begin .rated) ⊎ ((0 < begin .pause) × Outside 1000 60000 (begin .pause))))
+  pub no-other : (beginRefusal begin ≡ 0) ⊎ ((beginRefusal begin ≡ 1) ⊎ (beginRefusal begin ≡ 3))
