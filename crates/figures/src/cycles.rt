@@ -1,4 +1,4 @@
-// The sequences of the bench figures: rated 32,000 mA, pause 0, no ventilation.
+// Sequences of calls: the bench figures and the faults seen in the field, at 32,000 mA with pause 0.
 use crate::print;
 use crate::told;
 use controller::Controller;
@@ -20,7 +20,7 @@ fn steady_c(c: Controller, time: u64) -> Controller {
     told::sample(c, time, b"sample 6000/6000     ", 6000, 6000)
 }
 
-// The same charge without a line: B settles at 20, and C closes at 40.
+// The first charge again without its lines: B settles at 20, and C closes at 40.
 pub fn charging() -> Controller {
     let none = Controller::zeroed();
     let a = controller::begin(none, 0, 32000, 0, false);
@@ -31,7 +31,7 @@ pub fn charging() -> Controller {
 
 pub fn first_charge() {
     print::text(
-        b"\nFirst charge; a level of B is not sound, and 81 after the last sound sample it opens\n",
+        b"\nFirst charge: C closes at 40. The level of B at 50 is not sound, and 81 after the last sound sample it opens\n",
     );
     let c = told::begin(b"begin 32000, pause 0 ", 0, 32000, 0, false);
     let c = told::limit(c, 0, b"limit 32000          ", 32000);
@@ -46,7 +46,7 @@ pub fn first_charge() {
 
 pub fn second_charge() {
     print::text(
-        b"\nFrom here on the van has charged since 40. Two unsound samples open; the next closing waits for the pause (samples every 10)\n",
+        b"\nCharging since 40. Two unsound samples open; then samples of C every 10: the next closing waits for the pause\n",
     );
     let c = charging();
     let c = swing_b(c, 50);
@@ -64,7 +64,9 @@ fn withdrawn() -> Controller {
 }
 
 pub fn limit_withdrawn() {
-    print::text(b"\nLimit 0 at 5000 stops the van (samples every 10)\n");
+    print::text(
+        b"\nCharging since 40, samples every 10. Limit 0 at 5000 stops the van: 3000 later it opens\n",
+    );
     let c = withdrawn();
     let c = told::samples(c, 5010, 7990, 6000, 6000);
     let c = steady_c(c, 7990);
@@ -72,7 +74,7 @@ pub fn limit_withdrawn() {
 }
 
 pub fn limit_repeated() {
-    print::text(b"\nLimit 0 told again does not start the stop afresh\n");
+    print::text(b"\nThe same, with limit 0 told again: that does not start the stop afresh\n");
     let c = withdrawn();
     let c = told::samples(c, 5010, 7000, 6000, 6000);
     let c = told::limit(c, 7000, b"limit 0              ", 0);
@@ -83,7 +85,7 @@ pub fn limit_repeated() {
 
 pub fn over_run() {
     print::text(
-        b"\nOver-run at 533: 35179 starts one, and 5000 later fault 2 comes (samples every 10)\n",
+        b"\nCharging since 40, samples every 10. At 533 a measure of 35179 starts an over-run: 5000 later fault 2 comes\n",
     );
     let c = charging();
     let c = told::measure(c, 50, b"measure 35178        ", 35178);
@@ -94,7 +96,7 @@ pub fn over_run() {
 }
 
 pub fn no_over_run() {
-    print::text(b"\nOver-run at 533: 35178 starts none\n");
+    print::text(b"\nThe same with 35178, which is allowed\n");
     let c = charging();
     let c = told::measure(c, 60, b"measure 35178        ", 35178);
     let c = told::samples(c, 70, 5059, 6000, -12000);
@@ -103,7 +105,9 @@ pub fn no_over_run() {
 }
 
 pub fn between_bands() {
-    print::text(b"\nHigh 7200 is no band: it opens nothing and is not B\n");
+    print::text(
+        b"\nCharging since 40. High 7200 has no band: it opens nothing and is not B. High 7500 is not sound: two of it open\n",
+    );
     let c = charging();
     let c = told::sample(c, 50, b"sample 7200/-12000   ", 7200, -12000);
     let c = told::sample(c, 60, b"sample 7200/-12000   ", 7200, -12000);
@@ -112,7 +116,7 @@ pub fn between_bands() {
 }
 
 pub fn bad_diode() {
-    print::text(b"\nTwo samples without a diode: fault 1\n");
+    print::text(b"\nCharging since 40. Two samples with a low level outside its band: fault 1\n");
     let c = charging();
     let c = told::sample(c, 50, b"sample 6000/-10999   ", 6000, -10999);
     told::sample(c, 60, b"sample 6000/-10999   ", 6000, -10999);
@@ -120,7 +124,7 @@ pub fn bad_diode() {
 
 pub fn residual_current() {
     print::text(
-        b"\nA fault call opens; after clear the van charges again when the pause is over\n",
+        b"\nCharging since 40. A fault call opens; after clear, with samples of C every 10, it closes when the pause is over\n",
     );
     let c = charging();
     let c = told::fault(c, 50, b"fault 3              ", 3);
@@ -133,7 +137,9 @@ pub fn residual_current() {
 }
 
 pub fn ventilation() {
-    print::text(b"\nD with ventilation charges as C does\n");
+    print::text(
+        b"\nA post with ventilation: samples of D at 10 and 20 settle it, and it charges as C does\n",
+    );
     let c = told::begin(b"begin, ventilated    ", 0, 32000, 0, true);
     let c = told::limit(c, 0, b"limit 32000          ", 32000);
     let c = told::samples(c, 10, 30, 3000, 3000);
@@ -142,16 +148,28 @@ pub fn ventilation() {
 }
 
 pub fn no_ventilation() {
-    print::text(b"\nWithout it, D opens\n");
+    print::text(b"\nA post without, charging since 40: D opens\n");
     let c = charging();
     let c = told::sample(c, 50, b"sample 3000/-12000   ", 3000, -12000);
     told::sample(c, 60, b"sample 3000/-12000   ", 3000, -12000);
 }
 
 pub fn clock() {
-    print::text(b"\nA refused call does not move the clock, and equal times are accepted\n");
+    print::text(
+        b"\nCharging since 40. A refused call does not move the clock, and equal times are accepted\n",
+    );
     let c = charging();
     let c = told::limit(c, 900, b"limit 80001          ", 80001);
     let c = told::tick(c, 40);
     told::tick(c, 39);
+}
+
+pub fn fault_calls() {
+    print::text(
+        b"\nCharging since 40. Faults 5 and 4: the lowest is shown, and clear drops both\n",
+    );
+    let c = charging();
+    let c = told::fault(c, 50, b"fault 5              ", 5);
+    let c = told::fault(c, 60, b"fault 4              ", 4);
+    told::clear(c, 70);
 }

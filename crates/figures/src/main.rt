@@ -1,4 +1,5 @@
-// The unstarred bench figures of document 01, through the proved functions. What it writes is held to the file stdout.
+// Bench figures, faults seen in the field and the table of refusals, through the proved functions. What it writes is held to the
+// file stdout.
 mod cycles;
 mod print;
 mod readings;
@@ -22,6 +23,7 @@ fn main() {
     cycles::between_bands();
     cycles::bad_diode();
     cycles::residual_current();
+    cycles::fault_calls();
     cycles::ventilation();
     cycles::no_ventilation();
     cycles::clock();

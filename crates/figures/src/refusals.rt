@@ -19,7 +19,7 @@ fn row(name: &[u8], before: Controller, a: Answer) {
     if same {
         print::text(b"  controller unchanged\n");
     } else {
-        print::text(b"  CONTROLLER CHANGED\n");
+        print::text(b"  controller changed\n");
     }
 }
 
@@ -48,43 +48,62 @@ fn fault(c: Controller, name: &[u8], time: u64, kind: u32) {
     row(name, c, a);
 }
 
+// Two calls that are accepted, to compare.
+fn accepted(c: Controller) {
+    tick(c, b"tick at 50                         ", 50);
+    begin(c, b"begin at 50                        ", 50, 32000, 0);
+}
+
 fn begins(c: Controller) {
-    begin(c, b"begin, rated 5999              ", 50, 5999, 0);
-    begin(c, b"begin, rated 80001             ", 50, 80001, 0);
-    begin(c, b"begin, pause 999               ", 50, 32000, 999);
-    begin(c, b"begin, pause 60001             ", 50, 32000, 60001);
-    begin(c, b"begin, 1000000000001, rated 0  ", 1000000000001, 0, 0);
+    begin(c, b"begin at 50, rated 5999            ", 50, 5999, 0);
+    begin(c, b"begin at 50, rated 80001           ", 50, 80001, 0);
+    begin(c, b"begin at 50, pause 999             ", 50, 32000, 999);
+    begin(c, b"begin at 50, pause 60001           ", 50, 32000, 60001);
+    begin(
+        c,
+        b"begin at 1000000000001, rated 0    ",
+        1000000000001,
+        0,
+        0,
+    );
 }
 
 fn times(c: Controller) {
-    tick(c, b"tick before the last call      ", 39);
-    tick(c, b"tick at 1000000000001          ", 1000000000001);
-    limit(c, b"limit 80001 before the last    ", 39, 80001);
+    tick(c, b"tick at 39                         ", 39);
+    tick(c, b"tick at 1000000000001              ", 1000000000001);
+    limit(c, b"limit 80001 at 39                  ", 39, 80001);
+    let a = controller::clear(c, 39);
+    row(b"clear at 39                        ", c, a);
+    let a = told::sampled(c, 39, 6000, 6000);
+    row(b"sample at 39                       ", c, a);
 }
 
 fn arguments(c: Controller) {
-    limit(c, b"limit 80001                    ", 50, 80001);
-    measure(c, b"measure 200001                 ", 50, 200001);
-    fault(c, b"fault 2                        ", 50, 2);
-    fault(c, b"fault 6                        ", 50, 6);
+    limit(c, b"limit 80001 at 50                  ", 50, 80001);
+    measure(c, b"measure 200001 at 50               ", 50, 200001);
+    fault(c, b"fault 2 at 50                      ", 50, 2);
+    fault(c, b"fault 6 at 50                      ", 50, 6);
 }
 
 fn windows(c: Controller) {
-    let short = [6000; 255];
+    let short = [15001; 255];
     let a = controller::sample(c, 50, &short);
-    row(b"sample of 255 readings         ", c, a);
+    row(b"sample of 255 readings of 15001    ", c, a);
     let mut window = [6000; 256];
     readings::put(&mut window, 1, 15001);
     let a = controller::sample(c, 50, &window);
-    row(b"sample with a reading of 15001 ", c, a);
+    row(b"sample with one reading of 15001   ", c, a);
     readings::groups_of_seven(&mut window);
     let a = controller::sample(c, 50, &window);
-    row(b"sample in groups of 7          ", c, a);
+    row(b"sample of 256, in groups of 7      ", c, a);
 }
 
 pub fn all() {
-    print::text(b"\nRefusals, lent a controller that closed at 40\n");
+    print::text(
+        b"\nLent a controller that closed at 40: two calls that are accepted, and then refusals\n",
+    );
     let c = cycles::charging();
+    accepted(c);
     begins(c);
     times(c);
     arguments(c);
@@ -100,7 +119,7 @@ fn numbers(c: Controller) {
         ventilation: false,
     };
     rated.settings = low;
-    tick(rated, b"rated 5999                     ", 50);
+    tick(rated, b"rated 5999                         ", 50);
     let mut pause = c;
     let short = Settings {
         rated: Milliamps(32000),
@@ -108,25 +127,34 @@ fn numbers(c: Controller) {
         ventilation: false,
     };
     pause.settings = short;
-    tick(pause, b"pause 999                      ", 50);
+    tick(pause, b"pause 999                          ", 50);
+    let mut unset = c;
+    let zero = Settings {
+        rated: Milliamps(32000),
+        pause: Millis(0),
+        ventilation: false,
+    };
+    unset.settings = zero;
+    tick(unset, b"pause 0                            ", 50);
     let mut limited = c;
     let high = Milliamps(80001);
     limited.limit = high;
-    tick(limited, b"limit 80001                    ", 50);
+    tick(limited, b"limit 80001                        ", 50);
     let mut counted = c;
     counted.closings = 1000000002;
-    tick(counted, b"closings 1000000002            ", 50);
+    tick(counted, b"closings 1000000002                ", 50);
 }
 
 fn waves(c: Controller) {
     let mut low = c;
     low.wave = 99;
-    tick(low, b"wave 99                        ", 50);
-    limit(low, b"wave 99, and limit 80001       ", 50, 80001);
-    tick(low, b"wave 99, and before the last   ", 39);
+    tick(low, b"wave 99                            ", 50);
+    limit(low, b"wave 99, call limit 80001          ", 50, 80001);
+    tick(low, b"wave 99, tick at 39                ", 39);
+    tick(low, b"wave 99, tick at 1000000000001     ", 1000000000001);
     let mut high = c;
     high.wave = 961;
-    tick(high, b"wave 961                       ", 50);
+    tick(high, b"wave 961                           ", 50);
 }
 
 // A stored time above the last accepted one.
@@ -134,24 +162,26 @@ fn stored(c: Controller) {
     let later = Moment::set_to(Millis(41));
     let mut sound = c;
     sound.sound = later;
-    tick(sound, b"last sound sample at 41        ", 50);
+    tick(sound, b"last sound sample at 41            ", 50);
     let mut opening = c;
     opening.opening = later;
-    tick(opening, b"last opening at 41             ", 50);
+    tick(opening, b"last opening at 41                 ", 50);
     let mut overrun = c;
     overrun.overrun = later;
-    tick(overrun, b"over-run from 41               ", 50);
+    tick(overrun, b"over-run from 41                   ", 50);
     let mut stop = c;
     stop.stop = later;
-    tick(stop, b"stop from 41                   ", 50);
+    tick(stop, b"stop from 41                       ", 50);
 }
 
 pub fn altered() {
-    print::text(b"\nRefusal 1, lent that controller with a field altered\n");
+    print::text(
+        b"\nLent that controller with a field altered, a tick at 50 but where another call is named: refusal 1\n",
+    );
     let c = cycles::charging();
     numbers(c);
     waves(c);
     stored(c);
     let none = Controller::zeroed();
-    tick(none, b"all zeros                      ", 50);
+    tick(none, b"all zeros                          ", 50);
 }

@@ -40,6 +40,8 @@ fn reads(d: u32) {
 }
 
 pub fn duties() {
+    print::text(b"Single functions\n");
+    available(5999);
     available(6059);
     available(6060);
     reads(79);

@@ -5,21 +5,34 @@ use controller::Answer;
 use controller::Controller;
 use leaves::replies::Reply;
 
-// In seven places.
-fn places(n: u64) {
+// A time below 100,000, with space before it so that times stand in a column.
+fn time_of(n: u64) {
     if n < 10 {
-        print::text(b"      ");
-    } else if n < 100 {
-        print::text(b"     ");
-    } else if n < 1000 {
         print::text(b"    ");
-    } else if n < 10000 {
+    } else if n < 100 {
         print::text(b"   ");
+    } else if n < 1000 {
+        print::text(b"  ");
+    } else if n < 10000 {
+        print::text(b" ");
     }
     print::number(n);
 }
 
-fn verdict(refusal: u8) {
+// A wave in four places.
+fn wave(n: u32) {
+    print::text(b"  wave ");
+    if n < 10 {
+        print::text(b"   ");
+    } else if n < 100 {
+        print::text(b"  ");
+    } else if n < 1000 {
+        print::text(b" ");
+    }
+    print::number(n as u64);
+}
+
+fn outcome(refusal: u8) {
     if refusal == 0 {
         print::text(b"accepted   ");
     } else {
@@ -27,17 +40,6 @@ fn verdict(refusal: u8) {
         print::number(refusal as u64);
         print::text(b"  ");
     }
-}
-
-// Letter and digit; both are 0 beside a refusal that comes alone.
-fn state(letter: u8, digit: u8) {
-    if letter == 0 {
-        print::text(b"-");
-    } else {
-        let shown = [letter];
-        print::text(&shown);
-    }
-    print::number(digit as u64);
 }
 
 fn contactor(closed: bool) {
@@ -48,11 +50,11 @@ fn contactor(closed: bool) {
     }
 }
 
-pub fn reply(r: Reply) {
-    verdict(r.refusal);
-    state(r.letter, r.digit);
-    print::text(b"  wave");
-    places(r.wave as u64);
+fn rest(r: Reply) {
+    let letter = [r.letter];
+    print::text(&letter);
+    print::number(r.digit as u64);
+    wave(r.wave);
     contactor(r.closed);
     print::text(b"  fault ");
     print::number(r.fault as u64);
@@ -60,9 +62,19 @@ pub fn reply(r: Reply) {
     print::number(r.closings as u64);
 }
 
+// A refusal that comes alone has no letter.
+pub fn reply(r: Reply) {
+    outcome(r.refusal);
+    if r.letter == 0 {
+        print::text(b"alone");
+    } else {
+        rest(r);
+    }
+}
+
 // A line for the call, and the controller after it.
 fn line(time: u64, name: &[u8], a: Answer) -> Controller {
-    places(time);
+    time_of(time);
     print::text(b" ");
     print::text(name);
     reply(a.reply);
