@@ -1,9 +1,9 @@
 -- Demand 3 of every run: there is no hypothesis but the run.
-use mathlib.Core.Path.{_≡_, refl, sym, _∙_, ap}
+use mathlib.Core.Path.{_≡_, sym, _∙_, ap}
 use mathlib.Core.List.{List, map}
 use Prim.Native.Nat.{ℕ, zero, suc, _≤_}
 use native.Mathlib.Omega.{arith}
-use lib.ListN.{length, getD, take}
+use lib.ListN.{length, take}
 use lib.Seq.{take-length}
 use Rattle.rules.specs.Answer.{begun, replyTo, lentAfter}
 use Rattle.rules.specs.Begin.{Begin, beginRefusal}
@@ -12,7 +12,7 @@ use Rattle.rules.specs.Lent.{altered}
 use Rattle.rules.specs.Replay.{replay}
 use Rattle.rules.specs.Reply.{shown}
 use Rattle.rules.specs.Sequences.{repliesTo}
-use Rattle.rules.specs.Traces.{before, callAt, lentAt, replyBefore}
+use Rattle.rules.specs.Traces.{callAt, lentAt, replyBefore}
 use Rattle.rules.proofs.EveryList.{every-list}
 use Rattle.rules.proofs.Lending.{demand3-replied}
 use Rattle.leaves.specs.declared.replies.Reply.{Reply}

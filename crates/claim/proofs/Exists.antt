@@ -12,7 +12,7 @@ use Rattle.leaves.specs.declared.replies.Reply.{Reply}
 use Rattle.controller.specs.declared.Controller.{Controller}
 use Rattle.controller.specs.View.{view}
 use Rattle.controller.proofs.Fixes.{controllerOf, replyOf}
-use Rattle.claim.specs.Run.{Lends, Run, HasRun}
+use Rattle.claim.specs.Run.{Lends, HasRun}
 
 -- the replies that the definitions give
 repliesOf : Lent → List Call → List Reply

@@ -1,12 +1,11 @@
 -- What a run lends and answers is what the definitions do.
-use mathlib.Core.Path.{_≡_, refl, sym, _∙_, ap}
+use mathlib.Core.Path.{_≡_, refl, _∙_, ap}
 use mathlib.Core.List.{List, [], _∷_, map}
 use Prim.Native.Nat.{ℕ, zero, suc, _<_}
 use native.Mathlib.Nat.{not-suc-le-zero, le-of-suc-le-suc}
 use lib.ListN.{length, getD, take}
-use Rattle.rules.specs.Answer.{next, replyTo, lentAfter}
+use Rattle.rules.specs.Answer.{replyTo, lentAfter}
 use Rattle.rules.specs.Calls.{Call, heard, inTurn}
-use Rattle.rules.specs.Lent.{Lent}
 use Rattle.rules.specs.Sequences.{repliesTo}
 use Rattle.rules.specs.Traces.{noCall}
 use Rattle.leaves.specs.declared.replies.Reply.{Reply}

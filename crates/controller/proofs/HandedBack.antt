@@ -1,5 +1,5 @@
 -- A call's answer from its parts. An accepted call was lent a count in range, so that 32 bits hold the next one.
-use mathlib.Core.Path.{_≡_, refl, _∙_, ap}
+use mathlib.Core.Path.{_≡_, refl, ap}
 use mathlib.Core.Bool.{Bool, true, false, cond}
 use Prim.Native.Nat.{ℕ}
 use lib.Dec.{eqb}

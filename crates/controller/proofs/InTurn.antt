@@ -1,7 +1,6 @@
 -- The steps of an accepted call, one after the other, are the definition's.
-use mathlib.Core.Path.{_≡_, refl}
+use mathlib.Core.Path.{_≡_}
 use mathlib.Core.Bool.{Bool, _||_}
-use Rattle.window.specs.Weighing.{Weighs}
 use Rattle.rules.specs.Accepted.{stepEnd}
 use Rattle.rules.specs.Calls.{Heard, isFault}
 use Rattle.rules.specs.Lent.{Lent}

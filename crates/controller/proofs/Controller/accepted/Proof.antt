@@ -1,5 +1,4 @@
 -- What the calls ensure, one after the other (proofs/InTurn.antt).
-use Rattle.leaves.specs.Views.{asPair}
 use Rattle.controller.specs.View.{view, heardAt}
 use Rattle.controller.proofs.InTurn.{in-turn}
 use Rattle.controller.proofs.Controller.accepted.Statement.{statement}

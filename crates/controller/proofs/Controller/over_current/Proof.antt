@@ -1,5 +1,4 @@
 -- What the calls ensure, put together, is the definition.
-use mathlib.Core.Path.{_∙_}
 use Rattle.rules.specs.Step2Latches.{overCurrent}
 use Rattle.controller.proofs.Controller.over_current.Statement.{statement}
 use Rattle.controller.proofs.Controller.over_current.Tie as tie
