@@ -32,7 +32,7 @@ module _ (lent : Lent) (begin : Begin) (back : Answer) (is : back ≡ answerToBe
   pub begun-is : _≡_ {A = ℕ} (back .reply .refusal) 0 → back ≡ record { lent = begun begin; reply = shown 0 (begun begin) }
   begun-is into = by true (ap (λ n. eqb n 0) (begin-accepted into))
 
--- a refused begin leaves the list as it was: the host still has the controller that it lent, and the number came alone
+-- a refused begin is no call of a list: the host gets back the controller that it lent, and the number alone
 pub refused-begin : (begin : Begin) (before : Controller) (reply : Reply) (after : Controller) → Begins begin before reply after
     → (_≡_ {A = ℕ} (reply .refusal) 0 → ⊥) → (after ≡ before) × (asReply reply ≡ alone (beginRefusal begin))
 unfolding answerToBegin

@@ -1,4 +1,4 @@
-// The control pilot controller of a charging post: one struct, its five steps, and the calls.
+// The controller of a charging post: one struct, its five steps, and the calls.
 use leaves::events::Event;
 use leaves::faults::Faults;
 use leaves::moments::Moment;
