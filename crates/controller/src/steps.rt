@@ -59,7 +59,7 @@ impl Controller {
         ensures { λ r. ⌜ view r ≡ onKept (stepLatch faultcall (now .0) (asPair pair)) (view self) ⌝ }
     {
         let unsettles = self.unsettles(faultcall, now, pair);
-        let settled = events::pick_settled(unsettles, 0, self.settled);
+        let settled = samples::pick_letter(unsettles, 0, self.settled);
         let none = samples::forgotten();
         let previous = samples::pick(unsettles, none, self.previous);
         let diode = pair.both_diode_bad();

@@ -85,18 +85,12 @@ pub fn verdict_of(event: Event, wave: u32, ventilation: bool) -> Verdict
     }
 }
 
-pub fn pick_settled(first: bool, a: u8, b: u8) -> u8
-    ensures { λ r. ⌜ r ≡ cond first a b ⌝ }
-{
-    if first { a } else { b }
-}
-
 // Settling: by a pair in one band.
 pub fn settled_by(pair: Pair, settled: u8) -> u8
     ensures { λ r. ⌜ r ≡ settledBy (asPair pair) settled ⌝ }
 {
     let in_one = pair.in_one_band();
-    pick_settled(in_one, pair.this.band, settled)
+    samples::pick_letter(in_one, pair.this.band, settled)
 }
 
 // The time of the last sound sample.

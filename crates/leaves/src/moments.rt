@@ -1,5 +1,6 @@
 // Times and starts that may be empty: the last sound sample, the last opening, the over-run, the stop.
 use units::Millis;
+use units::conditions;
 ghost use mathlib.Core.Path.{_≡_};
 ghost use mathlib.Core.Bool.{true, cond};
 ghost use Prim.Native.Nat.{_+_};
@@ -39,13 +40,10 @@ impl Moment {
     pub fn started_by(self, now: Millis) -> Moment
         ensures { λ r. ⌜ asMoment r ≡ startedBy (now .0) (asMoment self) ⌝ }
     {
-        if self.set {
-            self
-        } else {
-            Moment {
-                set: true,
-                time: now,
-            }
+        let time = pick_time(self.set, self.time, now);
+        Moment {
+            set: true,
+            time: time,
         }
     }
 
@@ -82,9 +80,21 @@ impl Moment {
     }
 }
 
-// The first if told so, else the second.
+// Of two times: the first if told so, else the second.
+pub fn pick_time(first: bool, a: Millis, b: Millis) -> Millis
+    ensures { λ r. ⌜ r .0 ≡ cond first (a .0) (b .0) ⌝ }
+{
+    if first { a } else { b }
+}
+
+// The first if told so, else the second: field by field, as `samples::pick`.
 pub fn pick(first: bool, a: Moment, b: Moment) -> Moment
     ensures { λ r. ⌜ asMoment r ≡ cond first (asMoment a) (asMoment b) ⌝ }
 {
-    if first { a } else { b }
+    let set = conditions::pick(first, a.set, b.set);
+    let time = pick_time(first, a.time, b.time);
+    Moment {
+        set: set,
+        time: time,
+    }
 }

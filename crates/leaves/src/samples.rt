@@ -54,11 +54,32 @@ pub fn kept_sample(verdict: Verdict) -> Previous
     }
 }
 
-// The first if told so, else the second.
+// Of two letters or bands: the first if told so, else the second.
+pub fn pick_letter(first: bool, a: u8, b: u8) -> u8
+    ensures { λ r. ⌜ r ≡ cond first a b ⌝ }
+{
+    if first { a } else { b }
+}
+
+// The first if told so, else the second: field by field, which the compiler makes faster code of than of a struct chosen whole.
 pub fn pick(first: bool, a: Previous, b: Previous) -> Previous
     ensures { λ r. ⌜ asPrevious r ≡ cond first (asPrevious a) (asPrevious b) ⌝ }
 {
-    if first { a } else { b }
+    let kept = conditions::pick(first, a.kept, b.kept);
+    let band = pick_letter(first, a.verdict.band, b.verdict.band);
+    let sound = conditions::pick(first, a.verdict.sound, b.verdict.sound);
+    let proven = conditions::pick(first, a.verdict.proven, b.verdict.proven);
+    let diodebad = conditions::pick(first, a.verdict.diodebad, b.verdict.diodebad);
+    let verdict = Verdict {
+        band: band,
+        sound: sound,
+        proven: proven,
+        diodebad: diodebad,
+    };
+    Previous {
+        kept: kept,
+        verdict: verdict,
+    }
 }
 
 // Two samples without a band are not in one.

@@ -1,4 +1,5 @@
 // Begin's settings: their ranges, and the pause in force.
+use crate::moments;
 use crate::refusals;
 use units::Milliamps;
 use units::Millis;
@@ -41,18 +42,12 @@ fn asks_default(pause: Millis) -> bool
     pause.0 == 0
 }
 
-fn pick(first: bool, a: Millis, b: Millis) -> Millis
-    ensures { λ r. ⌜ r .0 ≡ cond first (a .0) (b .0) ⌝ }
-{
-    if first { a } else { b }
-}
-
 // The pause in force: 0 means 3,000.
 fn pause_for(pause: Millis) -> Millis
     ensures { λ r. ⌜ r .0 ≡ pauseFor (pause .0) ⌝ }
 {
     let default = asks_default(pause);
-    pick(default, Millis(3000), pause)
+    moments::pick_time(default, Millis(3000), pause)
 }
 
 // The settings with the pause in force.

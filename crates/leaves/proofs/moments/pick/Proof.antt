@@ -1,6 +1,13 @@
--- Each way through the code is one case of the definition.
+-- Each field is chosen for itself (proofs/Chosen.antt).
+use Rattle.leaves.specs.Views.{asMoment}
+use Rattle.leaves.proofs.Chosen.{moment-chosen}
 use Rattle.leaves.proofs.moments.pick.Statement.{statement}
 use Rattle.leaves.proofs.moments.pick.Tie as tie
 
+returns : tie.Need-returns
+returns c =
+    let a = c .before .before .args in
+    rw (c .pick-time .ensures, c .before .pick .ensures) (moment-chosen (a .first) (asMoment (a .a)) (asMoment (a .b)))
+
 pub pick-spec : {M : Type 1} → statement M
-pick-spec = tie.close (tie.spec (λ c. cc) (λ c. cc))
+pick-spec = tie.close (tie.spec (λ c κs. tt) (λ c κs. tt) returns)
