@@ -173,3 +173,14 @@ pub fn fault_calls() {
     let c = told::fault(c, 60, b"fault 4              ", 4);
     told::clear(c, 70);
 }
+
+pub fn diode_before_opening() {
+    print::text(
+        b"\nCharging since 40. A sample without a diode from before an opening does not count after it\n",
+    );
+    let c = charging();
+    let c = told::sample(c, 50, b"sample 6000/-10999   ", 6000, -10999);
+    let c = told::tick(c, 121);
+    let c = told::sample(c, 130, b"sample 6000/-10999   ", 6000, -10999);
+    told::sample(c, 140, b"sample 6000/-10999   ", 6000, -10999);
+}

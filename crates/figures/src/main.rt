@@ -22,6 +22,7 @@ fn main() {
     cycles::no_over_run();
     cycles::between_bands();
     cycles::bad_diode();
+    cycles::diode_before_opening();
     cycles::residual_current();
     cycles::fault_calls();
     cycles::ventilation();

@@ -1,4 +1,4 @@
-// The table of refusals: each number with the reply beside it, and the controller before and after.
+// Refusals 1 to 8: each number with the reply beside it, and the controller before and after.
 use crate::cycles;
 use crate::print;
 use crate::readings;

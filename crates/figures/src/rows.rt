@@ -44,6 +44,7 @@ pub fn duties() {
     available(5999);
     available(6059);
     available(6060);
+    available(52000);
     reads(79);
     reads(80);
     reads(970);

@@ -15,7 +15,7 @@ ghost use Rattle.leaves.specs.Views.{asReply};
 pub struct Reply {
     // 0 if the call was accepted
     pub refusal: u8,
-    // A to F or U, in ASCII
+    // A to F or U, in ASCII; 0 in a refusal that comes alone
     pub letter: u8,
     pub digit: u8,
     pub wave: u32,

@@ -13,7 +13,7 @@ ghost use Rattle.leaves.specs.Views.{asSettings, beginsWith};
 #[repr(C)]
 pub struct Settings {
     pub rated: Milliamps,
-    // As it is in force.
+    // In a controller, as it is in force; as given to begin, 0 asks for 3,000.
     pub pause: Millis,
     pub ventilation: bool,
 }
