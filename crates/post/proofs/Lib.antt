@@ -1,2 +1,3 @@
--- The structs that cross to the host, as crate thin's lemmas take them.
+-- The structs that cross to the host, and demand 3 of every run of the exported calls.
 pub mod Crossing
+pub mod HostRun

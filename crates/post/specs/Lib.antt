@@ -1,2 +1,4 @@
--- The definitions that the contracts of crate post cite.
+-- The definitions that the contracts of crate post cite, and a run of its calls.
 pub mod Duties
+pub mod Lent
+pub mod HostRun

@@ -2,7 +2,7 @@
 use controller::Controller;
 use leaves::replies::Reply;
 ghost use Rattle.rules.specs.Calls.{sample, limit, measure, fault, clear, tick};
-ghost use Rattle.controller.specs.Answers.{Answers, Begins};
+ghost use Rattle.post.specs.Lent.{AnswersLent, BeginsLent};
 
 pub mod duties; // duties.rt: duty and current, without a controller
 
@@ -16,7 +16,7 @@ pub extern "C" fn chuldariin_begin(
     pause: u64,
     ventilation: bool,
 ) -> Reply
-    ensures { λ r. ⌜ Begins (record { time = time; rated = rated; pause = pause; ventilation = ventilation }) (now (c .entry)) r (now (c .exit)) ⌝ }
+    ensures { λ r. ⌜ BeginsLent (record { time = time; rated = rated; pause = pause; ventilation = ventilation }) (c .entry) r (c .exit) ⌝ }
 {
     let s = controller::begin(*c, time, rated, pause, ventilation);
     *c = s.controller;
@@ -26,7 +26,7 @@ pub extern "C" fn chuldariin_begin(
 // A window of readings of the control pilot, in millivolts.
 #[no_mangle]
 pub extern "C" fn chuldariin_sample(c: &mut Controller, time: u64, window: &[i32]) -> Reply
-    ensures { λ r. ⌜ Answers (record { time = time; event = sample (now (window .entry)) }) (now (c .entry)) r (now (c .exit)) ⌝ }
+    ensures { λ r. ⌜ AnswersLent (record { time = time; event = sample (now (window .entry)) }) (c .entry) r (c .exit) ⌝ }
 {
     let s = controller::sample(*c, time, window);
     *c = s.controller;
@@ -36,7 +36,7 @@ pub extern "C" fn chuldariin_sample(c: &mut Controller, time: u64, window: &[i32
 // The depot's limit, in milliamps.
 #[no_mangle]
 pub extern "C" fn chuldariin_limit(c: &mut Controller, time: u64, current: u32) -> Reply
-    ensures { λ r. ⌜ Answers (record { time = time; event = limit current }) (now (c .entry)) r (now (c .exit)) ⌝ }
+    ensures { λ r. ⌜ AnswersLent (record { time = time; event = limit current }) (c .entry) r (c .exit) ⌝ }
 {
     let s = controller::limit(*c, time, current);
     *c = s.controller;
@@ -46,7 +46,7 @@ pub extern "C" fn chuldariin_limit(c: &mut Controller, time: u64, current: u32) 
 // The largest line current, in milliamps.
 #[no_mangle]
 pub extern "C" fn chuldariin_measure(c: &mut Controller, time: u64, current: u32) -> Reply
-    ensures { λ r. ⌜ Answers (record { time = time; event = measure current }) (now (c .entry)) r (now (c .exit)) ⌝ }
+    ensures { λ r. ⌜ AnswersLent (record { time = time; event = measure current }) (c .entry) r (c .exit) ⌝ }
 {
     let s = controller::measure(*c, time, current);
     *c = s.controller;
@@ -56,7 +56,7 @@ pub extern "C" fn chuldariin_measure(c: &mut Controller, time: u64, current: u32
 // A fault from outside: 3 residual current, 4 welded contact, 5 over-temperature.
 #[no_mangle]
 pub extern "C" fn chuldariin_fault(c: &mut Controller, time: u64, kind: u32) -> Reply
-    ensures { λ r. ⌜ Answers (record { time = time; event = fault kind }) (now (c .entry)) r (now (c .exit)) ⌝ }
+    ensures { λ r. ⌜ AnswersLent (record { time = time; event = fault kind }) (c .entry) r (c .exit) ⌝ }
 {
     let s = controller::fault(*c, time, kind);
     *c = s.controller;
@@ -66,7 +66,7 @@ pub extern "C" fn chuldariin_fault(c: &mut Controller, time: u64, kind: u32) -> 
 // The faults are over.
 #[no_mangle]
 pub extern "C" fn chuldariin_clear(c: &mut Controller, time: u64) -> Reply
-    ensures { λ r. ⌜ Answers (record { time = time; event = clear }) (now (c .entry)) r (now (c .exit)) ⌝ }
+    ensures { λ r. ⌜ AnswersLent (record { time = time; event = clear }) (c .entry) r (c .exit) ⌝ }
 {
     let s = controller::clear(*c, time);
     *c = s.controller;
@@ -76,7 +76,7 @@ pub extern "C" fn chuldariin_clear(c: &mut Controller, time: u64) -> Reply
 // Nothing but the time.
 #[no_mangle]
 pub extern "C" fn chuldariin_tick(c: &mut Controller, time: u64) -> Reply
-    ensures { λ r. ⌜ Answers (record { time = time; event = tick }) (now (c .entry)) r (now (c .exit)) ⌝ }
+    ensures { λ r. ⌜ AnswersLent (record { time = time; event = tick }) (c .entry) r (c .exit) ⌝ }
 {
     let s = controller::tick(*c, time);
     *c = s.controller;
