@@ -1,0 +1,58 @@
+//! The archive's controller, with safe calls.
+
+use chuldariin::raw::{self, Controller, Reply};
+use chuldariin_model::{Begin, Event};
+
+/// A controller of the archive.
+#[derive(Clone, Copy)]
+pub struct Archive {
+    pub controller: Controller,
+}
+
+// In every call below the controller is lent whole and for that call only, and the window is a slice.
+impl Archive {
+    pub fn begin(b: &Begin) -> (Archive, Reply) {
+        // All zeros is a controller: no field has a forbidden zero.
+        let mut controller: Controller = unsafe { std::mem::zeroed() };
+        let reply = unsafe {
+            raw::chuldariin_begin(&mut controller, b.time, b.rated, b.pause, b.ventilation)
+        };
+        (Archive { controller }, reply)
+    }
+
+    pub fn sample(&mut self, time: u64, window: &[i32]) -> Reply {
+        unsafe { raw::chuldariin_sample(&mut self.controller, time, window.as_ptr(), window.len()) }
+    }
+
+    pub fn limit(&mut self, time: u64, current: u32) -> Reply {
+        unsafe { raw::chuldariin_limit(&mut self.controller, time, current) }
+    }
+
+    pub fn measure(&mut self, time: u64, current: u32) -> Reply {
+        unsafe { raw::chuldariin_measure(&mut self.controller, time, current) }
+    }
+
+    pub fn fault(&mut self, time: u64, kind: u32) -> Reply {
+        unsafe { raw::chuldariin_fault(&mut self.controller, time, kind) }
+    }
+
+    pub fn clear(&mut self, time: u64) -> Reply {
+        unsafe { raw::chuldariin_clear(&mut self.controller, time) }
+    }
+
+    pub fn tick(&mut self, time: u64) -> Reply {
+        unsafe { raw::chuldariin_tick(&mut self.controller, time) }
+    }
+
+    /// The call that an event of the model stands for.
+    pub fn call(&mut self, time: u64, event: &Event) -> Reply {
+        match *event {
+            Event::Sample(window) => self.sample(time, window),
+            Event::Limit(current) => self.limit(time, current),
+            Event::Measure(current) => self.measure(time, current),
+            Event::Fault(kind) => self.fault(time, kind),
+            Event::Clear => self.clear(time),
+            Event::Tick => self.tick(time),
+        }
+    }
+}

@@ -1,0 +1,154 @@
+//! The calls without a window: the archive against the model.
+
+use crate::archive::Archive;
+use crate::drive::{charging, idle, Pair, DRIVEN_TO};
+use crate::generator::Generator;
+use crate::table::{ns, spread, verdict, Table};
+use crate::timing::{contest, median, ratio, Contestant, Effort, Times};
+use chuldariin::raw::Reply;
+use chuldariin_model::Event;
+use std::hint::black_box;
+
+/// Target of tick and limit: archive against the model.
+const TARGET: f64 = 1.5;
+
+/// One kind of call on both sides. It is made with the values in turn.
+#[derive(Clone, Copy)]
+struct Kind {
+    name: &'static str,
+    archive: fn(&mut Archive, u32) -> Reply,
+    event: fn(u32) -> Event<'static>,
+    values: fn() -> Vec<u32>,
+    target: Option<f64>,
+}
+
+/// Calls that leave a controller as it was, but for what they store.
+const IN_PLACE: [Kind; 3] = [
+    Kind {
+        name: "tick",
+        archive: |archive, _| archive.tick(DRIVEN_TO),
+        event: |_| Event::Tick,
+        values: || vec![0],
+        target: Some(TARGET),
+    },
+    Kind {
+        name: "limit",
+        archive: |archive, current| archive.limit(DRIVEN_TO, current),
+        event: Event::Limit,
+        values: limits,
+        target: Some(TARGET),
+    },
+    Kind {
+        name: "measure",
+        archive: |archive, current| archive.measure(DRIVEN_TO, current),
+        event: Event::Measure,
+        values: measures,
+        target: None,
+    },
+];
+
+/// Calls that do not: each is made on a fresh copy.
+const ON_A_COPY: [Kind; 2] = [
+    Kind {
+        name: "fault",
+        archive: |archive, kind| archive.fault(DRIVEN_TO, kind),
+        event: Event::Fault,
+        values: || vec![3, 4, 5],
+        target: None,
+    },
+    Kind {
+        name: "clear",
+        archive: |archive, _| archive.clear(DRIVEN_TO),
+        event: |_| Event::Clear,
+        values: || vec![0],
+        target: None,
+    },
+];
+
+/// Limits under which a wave stays driven, mA.
+pub fn limits() -> Vec<u32> {
+    changing(6_000, 80_000)
+}
+
+/// Measures below and above what wave 533 allows, mA.
+pub fn measures() -> Vec<u32> {
+    changing(0, 70_000)
+}
+
+fn changing(least: i32, greatest: i32) -> Vec<u32> {
+    let mut generator = Generator::new(32_000);
+    (0..64)
+        .map(|_| generator.between(least, greatest) as u32)
+        .collect()
+}
+
+fn time(kind: Kind, lent: &Pair, on_a_copy: bool, effort: Effort) -> Vec<Times> {
+    let values = (kind.values)();
+    let mut turn = values.iter().cycle();
+    let mut archive = lent.archive;
+    let archive_call = || {
+        if on_a_copy {
+            archive = lent.archive;
+        }
+        let value = turn.next().copied().unwrap_or(0);
+        black_box((kind.archive)(&mut archive, black_box(value)));
+    };
+    let mut other_turn = values.iter().cycle();
+    let mut model = lent.model;
+    let model_call = || {
+        if on_a_copy {
+            model = lent.model;
+        }
+        let value = other_turn.next().copied().unwrap_or(0);
+        let (next, told) = model.call(DRIVEN_TO, &(kind.event)(black_box(value)));
+        model = next;
+        black_box(told.reply);
+    };
+    let contestants = vec![Contestant::new(archive_call), Contestant::new(model_call)];
+    contest(contestants, effort)
+}
+
+/// The table of some kinds, in a controller that charges and in one that is idle.
+fn print(kinds: &[Kind], on_a_copy: bool, effort: Effort) {
+    let mut table = Table::new(&[
+        "call",
+        "controller",
+        "archive ns",
+        "model ns",
+        "archive / model",
+        "target",
+        "",
+    ]);
+    for &kind in kinds {
+        for (state, lent) in [("charging", charging()), ("idle", idle())] {
+            let times = time(kind, &lent, on_a_copy, effort);
+            let ratio = ratio(&times[0], &times[1]);
+            let (target, met) = match kind.target {
+                Some(target) => (format!("<= {target:.1}"), verdict(&ratio, target)),
+                None => ("-".to_string(), String::new()),
+            };
+            table.row(vec![
+                kind.name.to_string(),
+                state.to_string(),
+                ns(median(&times[0])),
+                ns(median(&times[1])),
+                spread(&ratio),
+                target,
+                met,
+            ]);
+        }
+    }
+    table.print();
+}
+
+const HEAD: &str = "\
+2. Calls without a window, median ns of a call
+   charging: closed, wave driven, so that a measure is judged; idle: open, no van.
+   measure is apart and has no target: it reads a table that is rebuilt at each call.";
+
+pub fn run(effort: Effort) {
+    println!("{HEAD}\n");
+    print(&IN_PLACE, false, effort);
+    println!("On a fresh copy of the controller for each call");
+    print(&ON_A_COPY, true, effort);
+}

@@ -1,0 +1,81 @@
+//! The archive and the model side by side, driven by the same calls.
+
+use crate::archive::Archive;
+use crate::readings::square;
+use chuldariin_model::{Begin, Event, State};
+
+/// The time up to which `charging` and `idle` drive, ms.
+pub const DRIVEN_TO: u64 = 40;
+
+/// Both controllers, in the same state.
+#[derive(Clone, Copy)]
+pub struct Pair {
+    pub archive: Archive,
+    pub model: State,
+}
+
+impl Pair {
+    pub fn begin(b: &Begin) -> Pair {
+        let (archive, told) = Archive::begin(b);
+        let (model, expected) = chuldariin_model::begin(b).expect("begin is in range");
+        agree(&told, &expected);
+        Pair { archive, model }
+    }
+
+    /// One call on both. Their replies must agree.
+    pub fn call(&mut self, time: u64, event: &Event) {
+        let told = self.archive.call(time, event);
+        let (next, expected) = self.model.call(time, event);
+        self.model = next;
+        agree(&told, &expected.reply);
+    }
+}
+
+fn agree(told: &chuldariin::raw::Reply, expected: &chuldariin_model::Reply) {
+    let same = told.refusal == expected.refusal
+        && told.letter == expected.letter
+        && told.digit == expected.digit
+        && told.wave == expected.wave
+        && told.closed == expected.closed
+        && told.closings == expected.closings
+        && expected.may_tell(told.fault.into());
+    assert!(same, "archive and model differ: {told:?} and {expected:?}");
+}
+
+fn begun() -> Pair {
+    let mut pair = Pair::begin(&Begin {
+        time: 0,
+        rated: 80_000,
+        pause: 0,
+        ventilation: false,
+    });
+    pair.call(0, &Event::Limit(32_000));
+    pair
+}
+
+/// Closed, with a driven wave: state C2.
+pub fn charging() -> Pair {
+    let mut pair = begun();
+    let connected = square(9_000, 9_000, 20, 256);
+    let ready = square(6_000, -12_000, 20, 256);
+    for (time, window) in [
+        (10, &connected),
+        (20, &connected),
+        (30, &ready),
+        (DRIVEN_TO, &ready),
+    ] {
+        pair.call(time, &Event::Sample(window));
+    }
+    assert!(pair.model.closed, "the contactor did not close");
+    pair
+}
+
+/// Open, with no van: state A1.
+pub fn idle() -> Pair {
+    let mut pair = begun();
+    let empty = square(12_000, 12_000, 20, 256);
+    for time in [30, DRIVEN_TO] {
+        pair.call(time, &Event::Sample(&empty));
+    }
+    pair
+}

@@ -1,0 +1,164 @@
+/* A whole charging cycle and each refusal, through the archive. Prints nothing but the last line if all is well; the exit status
+ * is 1 if something differs. */
+#include "chuldariin.h"
+
+#include <stdio.h>
+#include <string.h>
+
+static int wrong;
+
+#define EXPECT(test)                                                                                \
+    do {                                                                                            \
+        if (!(test)) {                                                                              \
+            fprintf(stderr, "%s:%d: not so: %s\n", __FILE__, __LINE__, #test);                      \
+            wrong = 1;                                                                              \
+        }                                                                                           \
+    } while (0)
+
+typedef struct chuldariin_controller controller;
+typedef struct chuldariin_reply reply;
+
+/* A window of 256 readings, half at each level. */
+static reply sample(controller *c, uint64_t time, int32_t high, int32_t low) {
+    int32_t readings[256];
+    for (size_t i = 0; i < 256; i++)
+        readings[i] = i < 128 ? high : low;
+    return chuldariin_sample(c, time, readings, 256);
+}
+
+static bool says(reply r, char letter, int digit, uint32_t wave, bool closed, int fault, uint32_t closings) {
+    return r.refusal == CHULDARIIN_ACCEPTED && r.letter == letter && r.digit == digit && r.wave == wave
+           && r.closed == closed && r.fault == fault && r.closings == closings;
+}
+
+/* Field by field: padding has no value. */
+static bool same(const controller *a, const controller *b) {
+    return a->settings.rated == b->settings.rated && a->settings.pause == b->settings.pause
+           && a->settings.ventilation == b->settings.ventilation && a->limit == b->limit && a->wave == b->wave
+           && a->closed == b->closed && a->settled == b->settled
+           && memcmp(&a->faults, &b->faults, sizeof a->faults) == 0 && a->last == b->last
+           && a->sound.set == b->sound.set && a->sound.time == b->sound.time && a->opening.set == b->opening.set
+           && a->opening.time == b->opening.time && a->overrun.set == b->overrun.set
+           && a->overrun.time == b->overrun.time && a->stop.set == b->stop.set && a->stop.time == b->stop.time
+           && memcmp(&a->previous, &b->previous, sizeof a->previous) == 0 && a->closings == b->closings;
+}
+
+/* A ready van with a sound diode; the contactor closes at 40. */
+static controller charging(void) {
+    controller c = {0};
+    EXPECT(says(chuldariin_begin(&c, 0, 32000, 0, false), 'U', 0, 1000, false, 0, 0));
+    EXPECT(says(chuldariin_limit(&c, 0, 32000), 'U', 0, 1000, false, 0, 0));
+    EXPECT(says(sample(&c, 10, 9000, 9000), 'U', 0, 1000, false, 0, 0));
+    EXPECT(says(sample(&c, 20, 9000, 9000), 'B', 2, 533, false, 0, 0));
+    EXPECT(says(sample(&c, 30, 6000, -12000), 'B', 2, 533, false, 0, 0));
+    EXPECT(says(sample(&c, 40, 6000, -12000), 'C', 2, 533, true, 0, 1));
+    return c;
+}
+
+static void silent_for_81(void) {
+    controller c = charging();
+    EXPECT(says(sample(&c, 50, 9000, -12000), 'C', 2, 533, true, 0, 1));
+    EXPECT(says(chuldariin_tick(&c, 120), 'C', 2, 533, true, 0, 1));
+    EXPECT(says(chuldariin_tick(&c, 121), 'C', 2, 533, false, 0, 1));
+    EXPECT(c.opening.set && c.opening.time == 121 && !c.previous.kept);
+}
+
+static void closes_again_after_the_pause(void) {
+    controller c = charging();
+    EXPECT(says(sample(&c, 50, 9000, -12000), 'C', 2, 533, true, 0, 1));
+    EXPECT(says(sample(&c, 60, 9000, -12000), 'B', 2, 533, false, 0, 1));
+    reply r = {0};
+    for (uint64_t t = 70; t <= 3060; t += 10) {
+        r = sample(&c, t, 6000, -12000);
+        EXPECT(r.closed == (t == 3060));
+    }
+    EXPECT(says(r, 'C', 2, 533, true, 0, 2));
+}
+
+static void stops_within_three_seconds(void) {
+    controller c = charging();
+    uint64_t t = 50;
+    for (; t < 5000; t += 10)
+        EXPECT(sample(&c, t, 6000, -12000).closed);
+    EXPECT(says(chuldariin_limit(&c, 5000, 0), 'C', 1, 1000, true, 0, 1));
+    for (; t < 8000; t += 10)
+        EXPECT(sample(&c, t, 6000, 6000).closed);
+    EXPECT(says(sample(&c, 8000, 6000, 6000), 'C', 1, 1000, false, 0, 1));
+}
+
+static void over_current_and_clear(void) {
+    controller c = charging();
+    EXPECT(chuldariin_measure(&c, 40, 35178).closed && !c.overrun.set);
+    EXPECT(chuldariin_measure(&c, 50, 35179).closed && c.overrun.set);
+    for (uint64_t t = 60; t <= 5040; t += 10)
+        EXPECT(sample(&c, t, 6000, -12000).closed);
+    EXPECT(says(chuldariin_tick(&c, 5049), 'C', 2, 533, true, 0, 1));
+    EXPECT(says(chuldariin_tick(&c, 5050), 'F', 0, 0, false, CHULDARIIN_FAULT_OVERCURRENT, 1));
+    reply r = chuldariin_fault(&c, 5060, CHULDARIIN_FAULT_WELDED);
+    EXPECT(says(r, 'F', 0, 0, false, r.fault, 1) && c.faults.overcurrent && c.faults.welded);
+    EXPECT(r.fault == CHULDARIIN_FAULT_OVERCURRENT || r.fault == CHULDARIIN_FAULT_WELDED);
+    EXPECT(says(chuldariin_clear(&c, 5070), 'U', 0, 1000, false, 0, 1));
+}
+
+/* The call was refused with this number, and the controller and what the reply tells of it are as before. */
+static void refused(reply r, int number, const controller *before, const controller *after) {
+    EXPECT(r.refusal == number);
+    EXPECT(same(before, after));
+    EXPECT(r.wave == before->wave && r.closed == before->closed && r.closings == before->closings);
+}
+
+static void each_refusal(void) {
+    controller c = charging();
+    const controller before = c;
+    int32_t readings[1025] = {0};
+
+    refused(chuldariin_tick(&c, 39), CHULDARIIN_REFUSED_EARLIER, &before, &c);
+    refused(chuldariin_tick(&c, 1000000000001u), CHULDARIIN_REFUSED_LATE, &before, &c);
+    refused(chuldariin_sample(&c, 50, readings, 255), CHULDARIIN_REFUSED_LENGTH, &before, &c);
+    refused(chuldariin_sample(&c, 50, readings, 1025), CHULDARIIN_REFUSED_LENGTH, &before, &c);
+    readings[7] = 15001;
+    refused(chuldariin_sample(&c, 50, readings, 256), CHULDARIIN_REFUSED_READING, &before, &c);
+    /* A hundred levels 300 mV apart, each two or three times. */
+    for (int i = 0; i < 256; i++)
+        readings[i] = -15000 + (i % 100) * 300;
+    refused(chuldariin_sample(&c, 50, readings, 256), CHULDARIIN_REFUSED_UNSUPPORTED, &before, &c);
+    refused(chuldariin_limit(&c, 50, 80001), CHULDARIIN_REFUSED_CURRENT, &before, &c);
+    refused(chuldariin_measure(&c, 50, 200001), CHULDARIIN_REFUSED_CURRENT, &before, &c);
+    refused(chuldariin_fault(&c, 50, 2), CHULDARIIN_REFUSED_KIND, &before, &c);
+
+    c.wave = 99;
+    const controller altered = c;
+    refused(chuldariin_clear(&c, 50), CHULDARIIN_REFUSED_SETTINGS, &altered, &c);
+    c = before;
+    reply r = chuldariin_begin(&c, 50, 5999, 0, false);
+    EXPECT(r.refusal == CHULDARIIN_REFUSED_SETTINGS && r.letter == 0 && r.wave == 0 && r.closings == 0 && same(&before, &c));
+
+    EXPECT(chuldariin_reading(1001).refusal == CHULDARIIN_REFUSED_DUTY);
+    EXPECT(chuldariin_duty(5999).refusal == CHULDARIIN_REFUSED_TOO_LOW);
+}
+
+static void before_any_begin(void) {
+    controller c = {0};
+    EXPECT(chuldariin_tick(&c, 0).refusal == CHULDARIIN_REFUSED_SETTINGS);
+}
+
+static void duties(void) {
+    struct chuldariin_read r = chuldariin_reading(533);
+    EXPECT(r.refusal == 0 && r.kind == CHULDARIIN_CURRENT && r.current == 31980);
+    EXPECT(chuldariin_reading(79).kind == CHULDARIIN_NO_CHARGING);
+    EXPECT(chuldariin_reading(80).current == 6000 && chuldariin_reading(970).current == 80000);
+    EXPECT(chuldariin_reading(50).kind == CHULDARIIN_DIGITAL_ONLY);
+    EXPECT(chuldariin_duty(32000).duty == 533 && chuldariin_duty(52749).duty == 850 && chuldariin_duty(52750).duty == 851);
+}
+
+int main(void) {
+    silent_for_81();
+    closes_again_after_the_pause();
+    stops_within_three_seconds();
+    over_current_and_clear();
+    each_refusal();
+    before_any_begin();
+    duties();
+    puts(wrong ? "cycle.c: something differs" : "cycle.c: a charging cycle and each refusal, as they should be");
+    return wrong;
+}

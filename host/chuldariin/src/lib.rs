@@ -1,0 +1,166 @@
+//! The proved control pilot controller of an AC charging post, from Rust.
+//!
+//! [`Post`] keeps the controller and lends it to each call of the archive. Every call is answered:
+//! with a [`Reply`], or with the [`Refusal`] that says why it was refused and what to do, and then
+//! the controller is as it was.
+//!
+//! ```
+//! use chuldariin::{Begin, Milliamps, Millis, Post};
+//!
+//! let (mut post, _) = Post::begin(Begin {
+//!     time: Millis(0),
+//!     rated: Milliamps(32_000),
+//!     pause: Millis(0),
+//!     ventilation: false,
+//! })?;
+//! post.limit(Millis(0), Milliamps(32_000))?;
+//!
+//! // A van is plugged in: 9 V, and no wave yet.
+//! let plugged = [9_000; 256];
+//! post.sample(Millis(10), &plugged)?;
+//! let reply = post.sample(Millis(20), &plugged)?;
+//! assert_eq!(reply.state.to_string(), "B2");
+//! assert_eq!(reply.wave, 533);
+//!
+//! // It is ready, with a sound diode: the second proven sample closes the contactor.
+//! let mut ready = [6_000; 256];
+//! ready[128..].fill(-12_000);
+//! post.sample(Millis(30), &ready)?;
+//! let reply = post.sample(Millis(40), &ready)?;
+//! assert!(reply.closed);
+//! assert_eq!(reply.closings, 1);
+//! # Ok::<(), chuldariin::Refusal>(())
+//! ```
+
+pub mod raw;
+mod refusal;
+mod reply;
+
+pub use refusal::Refusal;
+pub use reply::{Fault, Reading, Reply, State};
+
+/// A time, in milliseconds.
+#[derive(Clone, Copy, Debug, PartialEq, Eq, PartialOrd, Ord)]
+pub struct Millis(pub u64);
+
+/// A current, in milliamps.
+#[derive(Clone, Copy, Debug, PartialEq, Eq, PartialOrd, Ord)]
+pub struct Milliamps(pub u32);
+
+/// What a controller begins with.
+#[derive(Clone, Copy, Debug, PartialEq, Eq)]
+pub struct Begin {
+    pub time: Millis,
+    /// Rated current of the post, 6,000 to 80,000 mA.
+    pub rated: Milliamps,
+    /// Least time between an opening and the next closing, 1,000 to 60,000 ms; 0 for 3,000.
+    pub pause: Millis,
+    /// Whether the post has ventilation.
+    pub ventilation: bool,
+}
+
+/// A post's controller.
+#[derive(Clone, Debug, PartialEq, Eq)]
+pub struct Post {
+    controller: raw::Controller,
+}
+
+impl Post {
+    /// A controller that begins afresh.
+    ///
+    /// ```
+    /// use chuldariin::{Begin, Milliamps, Millis, Post, Refusal};
+    /// let begin = Begin { time: Millis(0), rated: Milliamps(5_999), pause: Millis(0), ventilation: false };
+    /// assert_eq!(Post::begin(begin).unwrap_err(), Refusal::Settings);
+    /// ```
+    pub fn begin(begin: Begin) -> Result<(Post, Reply), Refusal> {
+        let mut post = Post { controller: raw::Controller::ZEROED };
+        let reply = post.begin_again(begin)?;
+        Ok((post, reply))
+    }
+
+    /// Begins afresh with other settings. Refused, the controller is as it was.
+    pub fn begin_again(&mut self, begin: Begin) -> Result<Reply, Refusal> {
+        let Begin { time, rated, pause, ventilation } = begin;
+        // SAFETY: a `&mut` is what the archive asks of the pointer.
+        let reply = unsafe { raw::chuldariin_begin(&mut self.controller, time.0, rated.0, pause.0, ventilation) };
+        reply::accepted(reply)
+    }
+
+    /// A window of 256 to 1,024 readings of the pilot line, in millivolts.
+    pub fn sample(&mut self, time: Millis, readings: &[i32]) -> Result<Reply, Refusal> {
+        // SAFETY: as above, and a slice's pointer and length are what the archive asks of a window.
+        let reply =
+            unsafe { raw::chuldariin_sample(&mut self.controller, time.0, readings.as_ptr(), readings.len()) };
+        reply::accepted(reply)
+    }
+
+    /// The depot's limit, 0 to 80,000 mA.
+    pub fn limit(&mut self, time: Millis, current: Milliamps) -> Result<Reply, Refusal> {
+        // SAFETY: as in begin_again.
+        reply::accepted(unsafe { raw::chuldariin_limit(&mut self.controller, time.0, current.0) })
+    }
+
+    /// The largest line current measured, 0 to 200,000 mA.
+    pub fn measure(&mut self, time: Millis, current: Milliamps) -> Result<Reply, Refusal> {
+        // SAFETY: as in begin_again.
+        reply::accepted(unsafe { raw::chuldariin_measure(&mut self.controller, time.0, current.0) })
+    }
+
+    /// A fault from outside: residual current, welded contact or over-temperature. The other two are
+    /// the controller's own, and refused.
+    pub fn fault(&mut self, time: Millis, fault: Fault) -> Result<Reply, Refusal> {
+        // SAFETY: as in begin_again.
+        reply::accepted(unsafe { raw::chuldariin_fault(&mut self.controller, time.0, fault as u32) })
+    }
+
+    /// Drops every latched fault.
+    pub fn clear(&mut self, time: Millis) -> Result<Reply, Refusal> {
+        // SAFETY: as in begin_again.
+        reply::accepted(unsafe { raw::chuldariin_clear(&mut self.controller, time.0) })
+    }
+
+    /// Nothing but the time.
+    pub fn tick(&mut self, time: Millis) -> Result<Reply, Refusal> {
+        // SAFETY: as in begin_again.
+        reply::accepted(unsafe { raw::chuldariin_tick(&mut self.controller, time.0) })
+    }
+
+    /// What the controller holds.
+    pub fn controller(&self) -> &raw::Controller {
+        &self.controller
+    }
+
+    /// A post with this controller, whatever it holds: one that no list of calls leads to is refused
+    /// at the next call.
+    pub fn with(controller: raw::Controller) -> Post {
+        Post { controller }
+    }
+}
+
+/// What a van reads from a duty, in tenths of a percent.
+///
+/// ```
+/// use chuldariin::{reading, Milliamps, Reading, Refusal};
+/// assert_eq!(reading(533), Ok(Reading::Current(Milliamps(31_980))));
+/// assert_eq!(reading(79), Ok(Reading::NoCharging));
+/// assert_eq!(reading(1001), Err(Refusal::Duty));
+/// ```
+pub fn reading(duty: u32) -> Result<Reading, Refusal> {
+    // SAFETY: numbers alone cross.
+    reply::read(unsafe { raw::chuldariin_reading(duty) })
+}
+
+/// The greatest duty that announces no more than the available current, in tenths of a percent.
+///
+/// ```
+/// use chuldariin::{duty_for, Milliamps, Refusal};
+/// assert_eq!(duty_for(Milliamps(32_000)), Ok(533));
+/// assert_eq!(duty_for(Milliamps(5_999)), Err(Refusal::TooLow));
+/// ```
+pub fn duty_for(available: Milliamps) -> Result<u32, Refusal> {
+    // SAFETY: numbers alone cross.
+    let told = unsafe { raw::chuldariin_duty(available.0) };
+    refusal::told(told.refusal)?;
+    Ok(told.duty)
+}

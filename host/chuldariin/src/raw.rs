@@ -1,0 +1,196 @@
+//! The archive as C sees it: the structs and functions of `include/chuldariin.h`.
+//!
+//! The functions are `unsafe` because Rust cannot see what C may do with a pointer. What they ask is
+//! what a `&mut Controller` and a `&[i32]` give: [`crate::Post`] calls them with nothing else.
+
+/// What the host set at begin.
+#[repr(C)]
+#[derive(Clone, Copy, Debug, PartialEq, Eq)]
+pub struct Settings {
+    /// Rated current of the post, mA.
+    pub rated: u32,
+    /// Least time between an opening and the next closing, ms.
+    pub pause: u64,
+    /// Whether the post has ventilation.
+    pub ventilation: bool,
+}
+
+/// A time that may be empty.
+#[repr(C)]
+#[derive(Clone, Copy, Debug, PartialEq, Eq)]
+pub struct Moment {
+    /// Whether there is one.
+    pub set: bool,
+    /// The time, ms; of no meaning unless `set`.
+    pub time: u64,
+}
+
+/// The latched faults.
+#[repr(C)]
+#[derive(Clone, Copy, Debug, PartialEq, Eq)]
+pub struct Faults {
+    /// 1: no diode.
+    pub diode: bool,
+    /// 2: over-current.
+    pub overcurrent: bool,
+    /// 3: residual current.
+    pub residual: bool,
+    /// 4: welded contact.
+    pub welded: bool,
+    /// 5: over-temperature.
+    pub temperature: bool,
+}
+
+/// What a sample was found to be.
+#[repr(C)]
+#[derive(Clone, Copy, Debug, PartialEq, Eq)]
+pub struct Verdict {
+    /// The band of its high level, `b'A'` to `b'E'`; 0 for none.
+    pub band: u8,
+    pub sound: bool,
+    pub proven: bool,
+    pub diodebad: bool,
+}
+
+/// The previous sample.
+#[repr(C)]
+#[derive(Clone, Copy, Debug, PartialEq, Eq)]
+pub struct Previous {
+    /// Whether there is one; the verdict is of no meaning otherwise.
+    pub kept: bool,
+    pub verdict: Verdict,
+}
+
+/// What the host keeps, and lends to each call.
+#[repr(C)]
+#[derive(Clone, Copy, Debug, PartialEq, Eq)]
+pub struct Controller {
+    pub settings: Settings,
+    /// The depot's limit, mA.
+    pub limit: u32,
+    /// The wave command, in tenths of a percent.
+    pub wave: u32,
+    /// The contactor command.
+    pub closed: bool,
+    /// The settled state, `b'A'` to `b'E'`; any other number is U.
+    pub settled: u8,
+    pub faults: Faults,
+    /// The time of the last accepted call, or of begin, ms.
+    pub last: u64,
+    /// The last sound sample.
+    pub sound: Moment,
+    /// The last opening.
+    pub opening: Moment,
+    /// The start of the over-run.
+    pub overrun: Moment,
+    /// The start of the stop.
+    pub stop: Moment,
+    pub previous: Previous,
+    /// How often the contactor has closed since begin.
+    pub closings: u32,
+}
+
+impl Controller {
+    /// Cleared memory, which nothing has begun in: every call but begin is refused.
+    pub const ZEROED: Controller = {
+        let never = Moment { set: false, time: 0 };
+        Controller {
+            settings: Settings { rated: 0, pause: 0, ventilation: false },
+            limit: 0,
+            wave: 0,
+            closed: false,
+            settled: 0,
+            faults: Faults { diode: false, overcurrent: false, residual: false, welded: false, temperature: false },
+            last: 0,
+            sound: never,
+            opening: never,
+            overrun: never,
+            stop: never,
+            previous: Previous { kept: false, verdict: Verdict { band: 0, sound: false, proven: false, diodebad: false } },
+            closings: 0,
+        }
+    };
+}
+
+/// What a call tells.
+#[repr(C)]
+#[derive(Clone, Copy, Debug, PartialEq, Eq)]
+pub struct Reply {
+    /// 0 if the call was accepted, else the number of the refusal.
+    pub refusal: u8,
+    /// The state's letter in ASCII.
+    pub letter: u8,
+    /// The state's digit.
+    pub digit: u8,
+    /// The wave command, in tenths of a percent.
+    pub wave: u32,
+    /// The contactor command.
+    pub closed: bool,
+    /// 0, or a latched fault.
+    pub fault: u8,
+    /// How often the contactor has closed since begin.
+    pub closings: u32,
+}
+
+/// What a van reads from a duty.
+#[repr(C)]
+#[derive(Clone, Copy, Debug, PartialEq, Eq)]
+pub struct Reading {
+    /// 0, or 9.
+    pub refusal: u8,
+    /// 0 no charging, 1 digital only, 2 a current.
+    pub kind: u8,
+    /// The current, mA; 0 for the other kinds.
+    pub current: u32,
+}
+
+/// The greatest duty for an available current.
+#[repr(C)]
+#[derive(Clone, Copy, Debug, PartialEq, Eq)]
+pub struct Duty {
+    /// 0, or 10.
+    pub refusal: u8,
+    /// In tenths of a percent; 0 if refused.
+    pub duty: u32,
+}
+
+extern "C" {
+    pub fn chuldariin_begin(
+        c: *mut Controller,
+        time: u64,
+        rated: u32,
+        pause: u64,
+        ventilation: bool,
+    ) -> Reply;
+    pub fn chuldariin_sample(
+        c: *mut Controller,
+        time: u64,
+        readings: *const i32,
+        count: usize,
+    ) -> Reply;
+    pub fn chuldariin_limit(c: *mut Controller, time: u64, current: u32) -> Reply;
+    pub fn chuldariin_measure(c: *mut Controller, time: u64, current: u32) -> Reply;
+    pub fn chuldariin_fault(c: *mut Controller, time: u64, kind: u32) -> Reply;
+    pub fn chuldariin_clear(c: *mut Controller, time: u64) -> Reply;
+    pub fn chuldariin_tick(c: *mut Controller, time: u64) -> Reply;
+    pub fn chuldariin_reading(duty: u32) -> Reading;
+    pub fn chuldariin_duty(current: u32) -> Duty;
+}
+
+// The layout that the archive was compiled for.
+const _: () = {
+    use std::mem::{align_of, offset_of, size_of};
+    assert!(size_of::<Controller>() == 128 && align_of::<Controller>() == 8);
+    assert!(size_of::<Reply>() == 16 && align_of::<Reply>() == 4);
+    assert!(size_of::<Settings>() == 24 && size_of::<Moment>() == 16);
+    assert!(size_of::<Faults>() == 5 && size_of::<Verdict>() == 4 && size_of::<Previous>() == 5);
+    assert!(size_of::<Reading>() == 8 && size_of::<Duty>() == 8);
+    assert!(offset_of!(Controller, limit) == 24 && offset_of!(Controller, wave) == 28);
+    assert!(offset_of!(Controller, closed) == 32 && offset_of!(Controller, settled) == 33);
+    assert!(offset_of!(Controller, faults) == 34 && offset_of!(Controller, last) == 40);
+    assert!(offset_of!(Controller, sound) == 48 && offset_of!(Controller, opening) == 64);
+    assert!(offset_of!(Controller, overrun) == 80 && offset_of!(Controller, stop) == 96);
+    assert!(offset_of!(Controller, previous) == 112 && offset_of!(Controller, closings) == 120);
+    assert!(offset_of!(Reply, wave) == 4 && offset_of!(Reply, closed) == 8);
+    assert!(offset_of!(Reply, fault) == 9 && offset_of!(Reply, closings) == 12);
+};

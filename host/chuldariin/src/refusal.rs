@@ -1,0 +1,97 @@
+//! Why a call was refused.
+use std::error::Error;
+use std::fmt;
+
+/// Why a call was refused. The controller is as it was before the call. It displays what is wrong
+/// and what to do.
+///
+/// ```
+/// use chuldariin::Refusal;
+/// assert_eq!(Refusal::Length.number(), 4);
+/// assert!(Refusal::Length.to_string().contains("256 to 1,024"));
+/// ```
+#[derive(Clone, Copy, Debug, PartialEq, Eq, Hash)]
+pub enum Refusal {
+    /// 1: settings out of range at begin, or a controller that something else wrote into.
+    Settings,
+    /// 2: a time before that of the last accepted call.
+    Earlier,
+    /// 3: a time above the largest.
+    Late,
+    /// 4: the window's length.
+    Length,
+    /// 5: a reading out of range.
+    Reading,
+    /// 6: no supported reading.
+    Unsupported,
+    /// 7: a limit or a measured current out of range.
+    Current,
+    /// 8: a fault that is not for the host to tell.
+    Kind,
+    /// 9: a duty above the scale.
+    Duty,
+    /// 10: a current that no duty announces.
+    TooLow,
+}
+
+const ALL: [Refusal; 10] = [
+    Refusal::Settings,
+    Refusal::Earlier,
+    Refusal::Late,
+    Refusal::Length,
+    Refusal::Reading,
+    Refusal::Unsupported,
+    Refusal::Current,
+    Refusal::Kind,
+    Refusal::Duty,
+    Refusal::TooLow,
+];
+
+impl Refusal {
+    /// Its number in the table of refusals.
+    pub fn number(self) -> u8 {
+        self as u8 + 1
+    }
+
+    /// The refusal of a number.
+    pub fn of(number: u8) -> Option<Refusal> {
+        ALL.into_iter().find(|refusal| refusal.number() == number)
+    }
+
+    fn advice(self) -> &'static str {
+        match self {
+            Refusal::Settings => {
+                "begin: rated is not 6,000 to 80,000 mA, or pause neither 0 nor 1,000 to 60,000 ms. Another call: \
+                 nothing has begun, or something wrote into the controller; begin again and look for the stray write"
+            }
+            Refusal::Earlier => "the time is before that of the last accepted call: use a clock that never goes back",
+            Refusal::Late => "the time is above 1,000,000,000,000 ms: count milliseconds from the start of the post",
+            Refusal::Length => "the window does not have 256 to 1,024 readings",
+            Refusal::Reading => "a reading is not -15,000 to 15,000 mV: check the scale and the converter",
+            Refusal::Unsupported => "no reading has 8 readings within 200 mV: the pilot line is too noisy",
+            Refusal::Current => "a limit is above 80,000 mA, or a measured current above 200,000 mA",
+            Refusal::Kind => "the host may tell residual current (3), welded contact (4) and over-temperature (5) only",
+            Refusal::Duty => "the duty is above 1000 tenths of a percent",
+            Refusal::TooLow => "the current is below 6,000 mA, which no duty announces",
+        }
+    }
+}
+
+impl fmt::Display for Refusal {
+    fn fmt(&self, f: &mut fmt::Formatter<'_>) -> fmt::Result {
+        write!(f, "refused {}: {}", self.number(), self.advice())
+    }
+}
+
+impl Error for Refusal {}
+
+/// Whether the archive accepted.
+pub(crate) fn told(number: u8) -> Result<(), Refusal> {
+    if number == 0 {
+        return Ok(());
+    }
+    match Refusal::of(number) {
+        Some(refusal) => Err(refusal),
+        None => panic!("the archive told refusal {number}, which there is none of: is libpost.a of another version?"),
+    }
+}

@@ -1,0 +1,143 @@
+//! Begin, the six other calls, and the reply.
+
+use crate::state::{Event, State};
+use crate::steps::{run, Conditions};
+use crate::table::{check, refusal_of_begin};
+
+/// What begin's pause 0 means, ms.
+const USUAL_PAUSE: u64 = 3_000;
+
+/// Arguments of begin.
+#[derive(Clone, Copy, Debug, PartialEq, Eq)]
+pub struct Begin {
+    pub time: u64,
+    pub rated: u32,
+    pub pause: u64,
+    pub ventilation: bool,
+}
+
+/// What the host is told.
+#[derive(Clone, Copy, Debug, PartialEq, Eq)]
+pub struct Reply {
+    /// 0 if accepted.
+    pub refusal: u8,
+    /// ASCII; 0 where a refused begin comes alone.
+    pub letter: u8,
+    pub digit: u8,
+    pub wave: u32,
+    pub closed: bool,
+    /// The latched faults. Which of them is told is left open.
+    pub faults: [bool; 5],
+    pub closings: u32,
+}
+
+impl Reply {
+    /// The reply that a controller gives beside a refusal number.
+    pub fn of(state: &State, refusal: u8) -> Reply {
+        Reply {
+            refusal,
+            letter: state.letter(),
+            digit: state.digit(),
+            wave: state.wave,
+            closed: state.closed,
+            faults: state.faults,
+            closings: state.closings,
+        }
+    }
+
+    /// A refusal number with no controller beside it.
+    pub fn alone(refusal: u8) -> Reply {
+        Reply {
+            refusal,
+            letter: 0,
+            digit: 0,
+            wave: 0,
+            closed: false,
+            faults: [false; 5],
+            closings: 0,
+        }
+    }
+
+    /// May this number be told as the fault?
+    pub fn may_tell(&self, fault: u32) -> bool {
+        match fault {
+            0 => !self.faults.contains(&true),
+            1..=5 => self.faults[fault as usize - 1],
+            _ => false,
+        }
+    }
+}
+
+/// What one call did.
+#[derive(Clone, Copy, Debug, PartialEq, Eq)]
+pub struct Told {
+    pub reply: Reply,
+    /// Causes (i) to (v) of step 4; all false with the contactor open.
+    pub causes: [bool; 5],
+    pub opened: bool,
+    pub closing: bool,
+    /// Faults that this call latched, also those latched before.
+    pub latched: [bool; 5],
+    /// Step 5's conditions; all false in a refused call.
+    pub conditions: Conditions,
+}
+
+/// A fresh controller with its reply, or the refusal number alone.
+pub fn begin(b: &Begin) -> Result<(State, Reply), u8> {
+    let refusal = refusal_of_begin(b.time, b.rated, b.pause);
+    if refusal != 0 {
+        return Err(refusal);
+    }
+    let state = State {
+        rated: b.rated,
+        pause: if b.pause == 0 { USUAL_PAUSE } else { b.pause },
+        ventilation: b.ventilation,
+        limit: 0,
+        wave: 1_000,
+        closed: false,
+        settled: None,
+        faults: [false; 5],
+        last: b.time,
+        sound: None,
+        opening: None,
+        overrun: None,
+        stop: None,
+        previous: None,
+        closings: 0,
+    };
+    Ok((state, Reply::of(&state, 0)))
+}
+
+impl State {
+    /// One call on this controller, which may be any controller at all.
+    /// A refused call hands back an equal state.
+    pub fn call(&self, time: u64, event: &Event) -> (State, Told) {
+        match check(self, time, event) {
+            Err(refusal) => (*self, self.refused(refusal)),
+            Ok(levels) => {
+                let run = run(self, time, event, levels);
+                let told = Told {
+                    reply: Reply::of(&run.state, 0),
+                    causes: run.causes,
+                    opened: run.opened,
+                    closing: run.closing,
+                    latched: run.latched,
+                    conditions: run.conditions,
+                };
+                (run.state, told)
+            }
+        }
+    }
+
+    /// A refused call: no step was done, and the reply is as lent.
+    fn refused(&self, refusal: u8) -> Told {
+        Told {
+            reply: Reply::of(self, refusal),
+            causes: [false; 5],
+            opened: false,
+            closing: false,
+            latched: [false; 5],
+            conditions: Conditions::default(),
+        }
+    }
+}

@@ -1,0 +1,77 @@
+//! A plain model of the control pilot controller of a charging post.
+//!
+//! It was made from the scope paper (`01-scope.md`) alone, to be held against
+//! another controller call by call. It is slow and obvious on purpose.
+//!
+//! | File | What it holds |
+//! |---|---|
+//! | `window` | window to high and low level |
+//! | `pilot` | bands and the verdict on a sample |
+//! | `duty` | duty to current and back |
+//! | `state` | what is kept between calls |
+//! | `table` | the table of refusals |
+//! | `steps` | steps 1 to 5 of an accepted call |
+//! | `call` | begin, the six other calls, the reply |
+//!
+//! Units: levels in mV, currents in mA, times in ms, duty in tenths of a percent.
+//!
+//! # Readings
+//!
+//! Where the paper can be read in more than one way, the model reads it so:
+//!
+//! Table of refusals
+//! 1. A wave in range is 0, 100 to 960 or 1000; anything else is refusal 1.
+//! 2. A stored pause in range is 1,000 to 60,000. A stored 0 is refusal 1, as
+//!    only begin's argument may be 0.
+//! 3. The stored times are last sound sample, last opening, start of over-run
+//!    and start of stop. An absent one is no time; one equal to the last
+//!    accepted time is in order.
+//! 4. A last accepted time above the largest time is no refusal 1 of itself:
+//!    every call on it is refused 3 or 2.
+//! 5. Closings of exactly 1,000,000,001 are accepted, and may grow by one more.
+//! 6. Refusal 1 looks at nothing else: an odd verdict of the previous sample,
+//!    a driven wave under a latched fault and the like are taken as they are.
+//! 7. Begin knows only 3 and 1, in that order.
+//!
+//! Samples
+//! 8. A sample without a band, or in another band than its partner, leaves the
+//!    settled state as it was. It still becomes the previous sample.
+//! 9. A sample's band is that of its high level, whatever its low level is.
+//!
+//! Steps
+//! 10. A measure with the contactor open or the wave not driven does nothing
+//!     in step 1. The wave is the one commanded before the call.
+//! 11. Fault 2 asks only for the age of the over-run, in a call of any kind and
+//!     with the contactor open as well.
+//! 12. Faults 1 and 2 latch whenever their condition holds, also if latched
+//!     already (only in an altered controller); that too unsettles and forgets.
+//! 13. Forgetting counts even if there was nothing to forget: the sample of
+//!     that call is then not kept either.
+//! 14. After a latch forgot the previous sample, step 4 still has the pair as
+//!     it was before the call; step 5 has no previous sample. (No closing hangs
+//!     on this, since the wave is 0 then.)
+//! 15. In step 3 a driven wave ends the stop with the contactor open as well
+//!     (only in an altered controller). Wave 0 leaves the stop to step 4.
+//! 16. Clear drops the faults and nothing else; the settled state stays.
+//! 17. The last sound sample is kept in step 1 and is never forgotten.
+//!
+//! Reply
+//! 18. Letter U, E or F gives digit 0, whatever the wave is.
+
+#![forbid(unsafe_code)]
+
+mod call;
+mod duty;
+mod pilot;
+mod state;
+mod steps;
+mod table;
+mod window;
+
+pub use call::{begin, Begin, Reply, Told};
+pub use duty::{driven, duty_for, reading, Reading};
+pub use pilot::{band, verdict, Band, Verdict};
+pub use state::{Event, State};
+pub use steps::Conditions;
+pub use table::{refusal_of_begin, refusal_of_call};
+pub use window::levels;

@@ -1,0 +1,83 @@
+//! What a controller keeps between calls, and what a call can bring.
+
+use crate::pilot::{Band, Verdict};
+
+/// The state a controller keeps.
+#[derive(Clone, Copy, Debug, PartialEq, Eq)]
+pub struct State {
+    /// Rated current of the post, mA.
+    pub rated: u32,
+    /// Least time from an opening to the next closing, ms.
+    pub pause: u64,
+    pub ventilation: bool,
+    /// Depot limit, mA.
+    pub limit: u32,
+    /// Wave command, a duty.
+    pub wave: u32,
+    /// Contactor.
+    pub closed: bool,
+    /// Settled state; `None` is U.
+    pub settled: Option<Band>,
+    /// Latched faults: place 0 is fault 1, place 4 is fault 5.
+    pub faults: [bool; 5],
+    /// Time of the last accepted call, or of begin.
+    pub last: u64,
+    /// Time of the last sound sample.
+    pub sound: Option<u64>,
+    /// Time of the last opening.
+    pub opening: Option<u64>,
+    /// Start of the over-run.
+    pub overrun: Option<u64>,
+    /// Start of the stop.
+    pub stop: Option<u64>,
+    /// Verdict of the previous sample, unless it is forgotten.
+    pub previous: Option<Verdict>,
+    /// Number of closings.
+    pub closings: u32,
+}
+
+/// Kind and arguments of a call, beside its time.
+#[derive(Clone, Copy, Debug, PartialEq, Eq)]
+pub enum Event<'a> {
+    /// A window of readings, mV.
+    Sample(&'a [i32]),
+    /// The depot's limit, mA.
+    Limit(u32),
+    /// The largest line current, mA.
+    Measure(u32),
+    /// Kind 3 residual current, 4 welded contact, 5 over-temperature.
+    Fault(u32),
+    Clear,
+    Tick,
+}
+
+impl State {
+    /// Is any fault latched?
+    pub fn any_fault(&self) -> bool {
+        self.faults.contains(&true)
+    }
+
+    /// Letter of the reply, ASCII.
+    pub fn letter(&self) -> u8 {
+        if self.any_fault() {
+            return b'F';
+        }
+        match self.settled {
+            None => b'U',
+            Some(Band::A) => b'A',
+            Some(Band::B) => b'B',
+            Some(Band::C) => b'C',
+            Some(Band::D) => b'D',
+            Some(Band::E) => b'E',
+        }
+    }
+
+    /// Digit of the reply.
+    pub fn digit(&self) -> u8 {
+        match self.letter() {
+            b'U' | b'E' | b'F' => 0,
+            _ if crate::duty::driven(self.wave) => 2,
+            _ => 1,
+        }
+    }
+}

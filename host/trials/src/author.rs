@@ -1,0 +1,170 @@
+//! Makes up calls by what the controller is doing.
+
+use crate::call::Call;
+use crate::dice::Dice;
+use crate::edges::{ends, BAD_LOWS, GOOD_LIMITS, GOOD_LOWS, GOOD_PAUSES, GOOD_RATED, LARGEST};
+use crate::meaning::blank;
+use crate::tally::Tally;
+use crate::trial::{Played, Trial};
+use crate::windows::halves;
+use chuldariin::raw;
+use chuldariin_model::{driven, Band, Begin, State};
+
+/// A part of a list.
+pub type Scene = fn(&mut Author) -> Played;
+
+/// Writes one list of calls.
+pub struct Author {
+    pub dice: Dice,
+    pub trial: Trial,
+}
+
+/// Writes a list from a controller of zeros. After a difference the report of it.
+pub fn write(name: &str, seed: u64, tally: &mut Tally, list: impl Fn(&mut Author) -> Played) -> Result<(), String> {
+    write_from(blank(), name, seed, tally, list)
+}
+
+/// Writes a list from any controller.
+pub fn write_from(
+    start: raw::Controller,
+    name: &str,
+    seed: u64,
+    tally: &mut Tally,
+    list: impl Fn(&mut Author) -> Played,
+) -> Result<(), String> {
+    let mut author = Author {
+        dice: Dice::new(seed),
+        trial: Trial::from(start),
+    };
+    let played = list(&mut author);
+    tally.add(&author.trial.tally);
+    match played {
+        Ok(()) => Ok(()),
+        Err(_) => Err(author.trial.report(&format!("{name}, seed {seed}"))),
+    }
+}
+
+impl Author {
+    pub fn state(&self) -> State {
+        self.trial.state()
+    }
+
+    /// Runs a call; now and then one that changes nothing goes before it.
+    pub fn say(&mut self, call: Call) -> Played {
+        if self.dice.one_in(24) {
+            let refused = self.refused();
+            self.trial.run(refused)?;
+        }
+        if self.dice.one_in(24) {
+            self.trial.run(Call::Tick(self.state().last))?;
+        }
+        self.trial.run(call)
+    }
+
+    /// The time of the next call of a board that calls often.
+    pub fn soon(&mut self) -> u64 {
+        let step = self.dice.between(10, 20);
+        self.state().last.saturating_add(step)
+    }
+
+    /// A time at which a list may start.
+    pub fn start(&mut self) -> u64 {
+        match self.dice.between(0, 7) {
+            0..=2 => 0,
+            3 => LARGEST - self.dice.between(0, 20_000),
+            4 => self.dice.between(0, LARGEST),
+            _ => self.dice.between(0, 100_000),
+        }
+    }
+
+    /// A begin that is accepted if its time is.
+    pub fn good_begin(&mut self, time: u64) -> Call {
+        Call::Begin(Begin {
+            time,
+            rated: self.dice.pick(&GOOD_RATED),
+            pause: self.dice.pick(&GOOD_PAUSES),
+            ventilation: self.dice.one_in(2),
+        })
+    }
+
+    /// A level of a band, often one of its ends.
+    pub fn level(&mut self, band: Band) -> i32 {
+        let (low, high) = ends(band);
+        match self.dice.between(0, 5) {
+            0 => low,
+            1 => high,
+            2 => self.dice.level(low, high),
+            _ => (low + high) / 2,
+        }
+    }
+
+    /// A band in which a van is ready at this post.
+    pub fn ready_band(&mut self) -> Band {
+        if self.state().ventilation && self.dice.one_in(2) {
+            Band::D
+        } else {
+            Band::C
+        }
+    }
+
+    /// A sample of these two levels.
+    pub fn sample(&mut self, time: u64, high: i32, low: i32) -> Played {
+        self.say(Call::Sample(time, halves(high, low)))
+    }
+
+    /// A sample as a van in this band makes it under the present wave.
+    pub fn van_at(&mut self, time: u64, band: Band) -> Played {
+        let high = self.level(band);
+        let low = match self.state().wave {
+            wave if driven(wave) => self.dice.pick(&GOOD_LOWS),
+            0 => -12_000,
+            _ => high,
+        };
+        self.sample(time, high.max(low), low)
+    }
+
+    pub fn van(&mut self, band: Band) -> Played {
+        let time = self.soon();
+        self.van_at(time, band)
+    }
+
+    /// A sample with this band's high level and no diode.
+    pub fn no_diode_at(&mut self, time: u64, band: Band) -> Played {
+        let (high, low) = (self.level(band), self.dice.pick(&BAD_LOWS));
+        self.sample(time, high, low.min(high))
+    }
+
+    /// One of these limits.
+    pub fn limit(&mut self, time: u64, of: &[u32]) -> Played {
+        let limit = self.dice.pick(of);
+        self.say(Call::Limit(time, limit))
+    }
+
+    /// A limit that lets a wave be driven.
+    pub fn good_limit(&mut self) -> Played {
+        let time = self.soon();
+        self.limit(time, &GOOD_LIMITS)
+    }
+
+    /// One of the faults that the board finds.
+    pub fn fault(&mut self, time: u64) -> Played {
+        let kind = self.dice.pick(&[3, 4, 5]);
+        self.say(Call::Fault(time, kind))
+    }
+
+    /// Sound samples until just before a time at most 5 s away, far enough apart
+    /// for the 80 ms to matter.
+    pub fn hold_until(&mut self, until: u64, band: Band) -> Played {
+        for _ in 0..72 {
+            let time = self.state().last + self.dice.between(70, 80);
+            if self.state().closed && time.saturating_add(10) < until {
+                self.van_at(time, band)?;
+            }
+        }
+        let near = until.saturating_sub(self.dice.between(1, 9));
+        if self.state().closed && near >= self.state().last {
+            self.van_at(near, band)?;
+        }
+        Ok(())
+    }
+}

@@ -1,0 +1,60 @@
+//! A call with its arguments.
+
+use chuldariin_model::{Begin, Event};
+
+/// The seven calls. The first number of all but begin is the time, ms.
+#[derive(Clone, Debug, PartialEq, Eq)]
+pub enum Call {
+    Begin(Begin),
+    /// A window of readings, mV.
+    Sample(u64, Vec<i32>),
+    /// The depot's limit, mA.
+    Limit(u64, u32),
+    /// The largest line current, mA.
+    Measure(u64, u32),
+    /// Kind 3 residual current, 4 welded contact, 5 over-temperature.
+    Fault(u64, u32),
+    Clear(u64),
+    Tick(u64),
+}
+
+impl Call {
+    pub fn time(&self) -> u64 {
+        match self {
+            Call::Begin(begin) => begin.time,
+            Call::Sample(time, _)
+            | Call::Limit(time, _)
+            | Call::Measure(time, _)
+            | Call::Fault(time, _)
+            | Call::Clear(time)
+            | Call::Tick(time) => *time,
+        }
+    }
+
+    /// Kind and arguments as the model takes them; none for begin.
+    pub fn event(&self) -> Option<Event<'_>> {
+        match self {
+            Call::Begin(_) => None,
+            Call::Sample(_, readings) => Some(Event::Sample(readings)),
+            Call::Limit(_, current) => Some(Event::Limit(*current)),
+            Call::Measure(_, current) => Some(Event::Measure(*current)),
+            Call::Fault(_, kind) => Some(Event::Fault(*kind)),
+            Call::Clear(_) => Some(Event::Clear),
+            Call::Tick(_) => Some(Event::Tick),
+        }
+    }
+
+    /// The word that stands first in its line of text; a sample is one even if
+    /// it is printed as a window.
+    pub fn word(&self) -> &'static str {
+        match self {
+            Call::Begin(_) => "begin",
+            Call::Sample(..) => "sample",
+            Call::Limit(..) => "limit",
+            Call::Measure(..) => "measure",
+            Call::Fault(..) => "fault",
+            Call::Clear(_) => "clear",
+            Call::Tick(_) => "tick",
+        }
+    }
+}

@@ -1,0 +1,39 @@
+//! The proved archive held against the model, call by call.
+//!
+//! Each call goes to both sides. The whole reply and the whole controller must
+//! agree, after every call, refused or not. The first call where they do not
+//! ends its list; the list is shrunk and printed in a form that can be replayed.
+//!
+//! | File | What it holds |
+//! |---|---|
+//! | `dice` | a seeded pseudo-random generator |
+//! | `call` | a call with its arguments |
+//! | `text` | lists of calls as text, and back |
+//! | `meaning` | what the archive's controller means |
+//! | `pair` | one call on both sides |
+//! | `trial` | a list of calls as it grows, and the report of a difference |
+//! | `shrink` | a shorter list that differs too |
+//! | `tally` | how often everything that should occur did |
+//! | `edges` | levels, numbers and times at the ends of their ranges |
+//! | `windows` | windows of readings, clean and odd |
+//! | `author` | makes up calls by what the controller is doing |
+//! | `noise` | calls to be refused, and calls of any kind |
+//! | `scenes` | what happens at a charging post |
+//! | `odds` | scenes of windows, faults and clocks |
+//!
+//! Units: levels in mV, currents in mA, times in ms, duty in tenths of a percent.
+
+pub mod author;
+pub mod call;
+pub mod dice;
+pub mod edges;
+pub mod meaning;
+pub mod noise;
+pub mod odds;
+pub mod pair;
+pub mod scenes;
+pub mod shrink;
+pub mod tally;
+pub mod text;
+pub mod trial;
+pub mod windows;

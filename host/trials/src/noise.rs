@@ -1,0 +1,148 @@
+//! Calls to be refused, and calls of any kind.
+
+use crate::author::Author;
+use crate::call::Call;
+use crate::edges::{
+    times, BAD_LOWS, BAD_PAUSES, BAD_RATED, CURRENTS, GOOD_LOWS, HIGHS, LARGEST, LOWS,
+};
+use crate::windows::{halves, odd, scattered};
+use chuldariin_model::{Band, Begin};
+
+impl Author {
+    /// A call that is refused whatever the controller is, or nearly so.
+    pub fn refused(&mut self) -> Call {
+        let time = self.edge_time();
+        match self.dice.between(0, 9) {
+            0 => self.bad_begin(),
+            1 => self.any_call(LARGEST + 1),
+            2 => self.any_call(u64::MAX),
+            3 => self.any_call(self.state().last.wrapping_sub(1)),
+            4 => Call::Limit(time, self.dice.pick(&[80_001, 200_000, u32::MAX])),
+            5 => Call::Measure(time, self.dice.pick(&[200_001, 2_000_000, u32::MAX])),
+            6 => Call::Fault(time, self.dice.pick(&[0, 1, 2, 6, 7, 255, 259, u32::MAX])),
+            _ => Call::Sample(time, self.bad_window()),
+        }
+    }
+
+    /// A window of a wrong length, with a reading out of range, or unsupported.
+    pub fn bad_window(&mut self) -> Vec<i32> {
+        let length = self.dice.pick(&[256, 256, 256, 257, 1_024]);
+        match self.dice.between(0, 3) {
+            0 => vec![6_000; self.dice.pick(&[0, 1, 7, 8, 255, 1_025])],
+            1 => scattered(&mut self.dice, length),
+            2 => self.spoilt(vec![6_000; length]),
+            _ => {
+                // Two faults at once: the lower number counts.
+                let length = self.dice.pick(&[1, 255, 256, 1_025]);
+                let readings = scattered(&mut self.dice, length);
+                self.spoilt(readings)
+            }
+        }
+    }
+
+    /// Puts a reading out of range somewhere into a window.
+    fn spoilt(&mut self, mut readings: Vec<i32>) -> Vec<i32> {
+        let bad = [15_001, -15_001, i32::MAX, i32::MIN];
+        let places = [0, readings.len() - 1, self.dice.place(readings.len())];
+        readings[self.dice.pick(&places)] = self.dice.pick(&bad);
+        readings
+    }
+
+    /// A begin with one or more bad arguments.
+    pub fn bad_begin(&mut self) -> Call {
+        let mut begin = Begin {
+            time: self.edge_time(),
+            rated: 32_000,
+            pause: 0,
+            ventilation: self.dice.one_in(2),
+        };
+        match self.dice.between(0, 4) {
+            0 => begin.rated = self.dice.pick(&BAD_RATED),
+            1 => begin.pause = self.dice.pick(&BAD_PAUSES),
+            2 => begin.time = self.dice.pick(&[LARGEST + 1, u64::MAX]),
+            3 => {
+                begin.time = LARGEST + 1;
+                begin.rated = self.dice.pick(&BAD_RATED);
+            }
+            _ => {
+                begin.rated = self.dice.pick(&BAD_RATED);
+                begin.pause = self.dice.pick(&BAD_PAUSES);
+            }
+        }
+        Call::Begin(begin)
+    }
+
+    /// A time at a threshold of the present state, now and then a bad one.
+    pub fn edge_time(&mut self) -> u64 {
+        let last = self.state().last;
+        match self.dice.between(0, 31) {
+            0 => self.dice.pick(&[LARGEST, LARGEST + 1, u64::MAX]),
+            1 => self.dice.pick(&[0, last / 2, last.wrapping_sub(1)]),
+            2..=15 => last.saturating_add(self.dice.between(0, 20)),
+            _ => {
+                let times = times(&self.state());
+                self.dice.pick(&times)
+            }
+        }
+    }
+
+    /// A call of any kind but begin, with arguments at the ends of their ranges.
+    pub fn any_call(&mut self, time: u64) -> Call {
+        match self.dice.between(0, 15) {
+            0..=6 => Call::Sample(time, self.any_window()),
+            7..=8 => Call::Limit(time, self.dice.pick(&CURRENTS)),
+            9..=10 => Call::Measure(time, self.any_current()),
+            11 => Call::Fault(time, self.dice.pick(&[2, 3, 4, 5, 3, 4, 5, 6])),
+            12..=13 => Call::Clear(time),
+            _ => Call::Tick(time),
+        }
+    }
+
+    /// Around the present allowance, or any.
+    fn any_current(&mut self) -> u32 {
+        if self.dice.one_in(2) {
+            return self.dice.pick(&CURRENTS);
+        }
+        let over = self.dice.between(0, 1) as u32;
+        self.allowance() + over
+    }
+
+    /// Mostly clean windows; also odd and bad ones.
+    pub fn any_window(&mut self) -> Vec<i32> {
+        match self.dice.between(0, 31) {
+            0 => self.bad_window(),
+            1 => odd(&mut self.dice),
+            2..=4 => halves(self.dice.pick(&LOWS), self.dice.pick(&HIGHS)),
+            5..=13 => halves(self.dice.pick(&HIGHS), self.dice.pick(&LOWS)),
+            14..=17 => {
+                let high = self.any_level();
+                halves(high, self.dice.pick(&BAD_LOWS).min(high))
+            }
+            _ => {
+                let high = self.any_level();
+                halves(high, self.dice.pick(&GOOD_LOWS))
+            }
+        }
+    }
+
+    /// A level of some band, mostly C.
+    fn any_level(&mut self) -> i32 {
+        let bands = [Band::C, Band::C, Band::C, Band::B, Band::D, Band::A];
+        let band = self.dice.pick(&bands);
+        self.level(band)
+    }
+
+    /// So many calls of any kind, also begin.
+    pub fn anything(&mut self, count: u64) -> crate::trial::Played {
+        for _ in 0..count {
+            let time = self.edge_time();
+            let call = match self.dice.between(0, 63) {
+                0 => self.good_begin(time),
+                1 => self.bad_begin(),
+                _ => self.any_call(time),
+            };
+            self.say(call)?;
+        }
+        Ok(())
+    }
+}

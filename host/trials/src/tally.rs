@@ -1,0 +1,228 @@
+//! How often everything that should occur did.
+
+use crate::call::Call;
+use crate::pair::Seen;
+use chuldariin_model::{Conditions, State};
+use std::collections::BTreeMap;
+
+/// Sets of opening causes: bit 0 is cause (i), bit 4 is cause (v).
+pub const CAUSES: [&str; 32] = [
+    "none",
+    "i",
+    "ii",
+    "i ii",
+    "iii",
+    "i iii",
+    "ii iii",
+    "i ii iii",
+    "iv",
+    "i iv",
+    "ii iv",
+    "i ii iv",
+    "iii iv",
+    "i iii iv",
+    "ii iii iv",
+    "i ii iii iv",
+    "v",
+    "i v",
+    "ii v",
+    "i ii v",
+    "iii v",
+    "i iii v",
+    "ii iii v",
+    "i ii iii v",
+    "iv v",
+    "i iv v",
+    "ii iv v",
+    "i ii iv v",
+    "iii iv v",
+    "i iii iv v",
+    "ii iii iv v",
+    "i ii iii iv v",
+];
+
+/// Letter and digit.
+pub const STATES: [&str; 11] = [
+    "U0", "A1", "A2", "B1", "B2", "C1", "C2", "D1", "D2", "E0", "F0",
+];
+
+pub const REFUSALS: [&str; 9] = ["0", "1", "2", "3", "4", "5", "6", "7", "8"];
+pub const FAULTS: [&str; 5] = ["1", "2", "3", "4", "5"];
+
+/// Lengths of windows at the ends of their range.
+pub const LENGTHS: [(&str, usize); 8] = [
+    ("0", 0),
+    ("1", 1),
+    ("255", 255),
+    ("256", 256),
+    ("257", 257),
+    ("1,023", 1_023),
+    ("1,024", 1_024),
+    ("1,025", 1_025),
+];
+
+/// Counts by group and name.
+#[derive(Clone, Debug, Default)]
+pub struct Tally(BTreeMap<(&'static str, &'static str), u64>);
+
+impl Tally {
+    pub fn count(&mut self, group: &'static str, name: &'static str) {
+        *self.0.entry((group, name)).or_insert(0) += 1;
+    }
+
+    pub fn of(&self, group: &'static str, name: &'static str) -> u64 {
+        self.0.get(&(group, name)).copied().unwrap_or(0)
+    }
+
+    /// Adds the counts of another tally.
+    pub fn add(&mut self, other: &Tally) {
+        for (key, count) in &other.0 {
+            *self.0.entry(*key).or_insert(0) += count;
+        }
+    }
+
+    /// Counts one call on which both sides agreed.
+    pub fn see(&mut self, seen: &Seen) {
+        let reply = seen.told.reply;
+        self.count("refusal", REFUSALS[reply.refusal as usize]);
+        self.see_state(reply.letter, reply.digit);
+        if let Call::Sample(_, readings) = seen.call {
+            self.see_length(readings.len());
+        }
+        if reply.refusal != 0 {
+            self.count("refused", seen.call.word());
+            return;
+        }
+        self.count("accepted", seen.call.word());
+        self.see_contactor(seen);
+        self.see_ages(seen);
+        self.see_conditions(&seen.told.conditions);
+        if let Call::Sample(_, readings) = seen.call {
+            self.see_window(readings);
+        }
+    }
+
+    fn see_state(&mut self, letter: u8, digit: u8) {
+        let told = [letter, b'0' + digit];
+        if let Some(name) = STATES.iter().find(|name| name.as_bytes() == told) {
+            self.count("state", name);
+        }
+    }
+
+    fn see_contactor(&mut self, seen: &Seen) {
+        let told = &seen.told;
+        for (fault, name) in FAULTS.iter().enumerate() {
+            if told.latched[fault] {
+                self.count("latched", name);
+            }
+        }
+        let set = (0..5).filter(|&cause| told.causes[cause]);
+        let set: usize = set.map(|cause| 1 << cause).sum();
+        if told.opened {
+            self.count("opened by", CAUSES[set]);
+        }
+        if told.closing {
+            let ready = if told.reply.letter == b'D' { "in D" } else { "in C" };
+            self.count("closing", ready);
+        }
+    }
+
+    /// Ages at the ends of their rules.
+    fn see_ages(&mut self, seen: &Seen) {
+        let (before, after, told) = (&seen.before, &seen.after, &seen.told);
+        let time = seen.call.time();
+        let age = |start: Option<u64>| start.and_then(|start| time.checked_sub(start));
+        match age(after.sound) {
+            Some(80) if before.closed && after.closed => self.count("age", "sound 80, closed"),
+            Some(81) if before.closed && told.causes[1] => self.count("age", "sound 81, opens"),
+            _ => {}
+        }
+        match age(before.stop) {
+            Some(2_999) if after.stop.is_some() => self.count("age", "stop 2,999, runs"),
+            Some(3_000) if told.causes[3] => self.count("age", "stop 3,000, opens"),
+            _ => {}
+        }
+        match age(before.overrun) {
+            Some(4_999) if after.overrun.is_some() => self.count("age", "over-run 4,999, runs"),
+            Some(5_000) if told.latched[1] => self.count("age", "over-run 5,000, latches"),
+            _ => {}
+        }
+        self.see_pause(before, age(before.opening), &told.conditions);
+    }
+
+    fn see_pause(&mut self, before: &State, age: Option<u64>, conditions: &Conditions) {
+        let due = Conditions {
+            pause_over: true,
+            ..*conditions
+        };
+        if age.is_none() || !due.all() {
+            return;
+        }
+        if age == before.pause.checked_sub(1) {
+            self.count("age", "pause less 1, stays");
+        }
+        if age == Some(before.pause) {
+            self.count("age", "pause, closes");
+        }
+    }
+
+    /// Closing conditions that were missing alone.
+    fn see_conditions(&mut self, c: &Conditions) {
+        let singles = [
+            ("open", c.open_before),
+            ("wave", c.wave_driven),
+            ("this sample", c.this_proven),
+            ("previous sample", c.previous_proven),
+            ("one band", c.same_band),
+            ("pause", c.pause_over),
+        ];
+        let mut missing = singles.iter().filter(|single| !single.1);
+        if let (Some((name, _)), None, true) = (missing.next(), missing.next(), c.sample) {
+            self.count("closes but for", name);
+        }
+    }
+
+    fn see_length(&mut self, length: usize) {
+        if let Some((name, _)) = LENGTHS.iter().find(|named| named.1 == length) {
+            self.count("length", name);
+        }
+    }
+
+    /// Support of the greatest reading of an accepted window.
+    fn see_window(&mut self, readings: &[i32]) {
+        let greatest = readings.iter().max().copied().unwrap_or(0);
+        match support(readings, greatest) {
+            7 => self.count("greatest has", "7"),
+            8 => self.count("greatest has", "8"),
+            9 => self.count("greatest has", "9"),
+            _ => {}
+        }
+    }
+
+    /// The names of a group that never occurred.
+    pub fn missing(&self, group: &'static str, names: &[&'static str]) -> Vec<String> {
+        let never = names.iter().filter(|name| self.of(group, name) == 0);
+        never.map(|name| format!("{group}: {name}")).collect()
+    }
+
+    /// A line for each group.
+    pub fn table(&self) -> String {
+        let mut text = String::new();
+        let mut present = "";
+        for ((group, name), count) in &self.0 {
+            if *group != present {
+                text.push_str(&format!("\n{group:>14} |"));
+                present = group;
+            }
+            text.push_str(&format!(" {name}: {count};"));
+        }
+        text.push('\n');
+        text
+    }
+}
+
+/// How many readings lie within 200 mV of this one.
+fn support(readings: &[i32], one: i32) -> usize {
+    let near = readings.iter().filter(|other| (*other - one).abs() <= 200);
+    near.count()
+}

@@ -1,0 +1,235 @@
+/* Chuldariin: the control pilot controller of an AC charging post (IEC 61851-1 Annex A, Mode 3).
+ *
+ * The host keeps one struct chuldariin_controller and lends it to each call. Every call returns a
+ * finished reply: accepted (refusal 0), or refused with a number from CHULDARIIN_REFUSED_... below,
+ * and then the controller is as it was. Nothing is allocated, nothing is kept elsewhere, nothing
+ * blocks; a call's time is bounded by the length of its window.
+ *
+ *     struct chuldariin_controller post = {0};
+ *     struct chuldariin_reply r = chuldariin_begin(&post, now_ms, 32000, 0, false);
+ *     r = chuldariin_limit(&post, now_ms, 16000);
+ *     r = chuldariin_sample(&post, now_ms, readings, 256);
+ *     drive_pilot(r.wave);
+ *     drive_contactor(r.closed);
+ *
+ * What the host owes. These hold of any C call, and no reply can tell that one was broken:
+ *   - the pointers are not null and are aligned for what they point at;
+ *   - the controller and the readings are initialised ({0} will do before begin), the bools in the
+ *     controller are 0 or 1 and `ventilation` is true or false;
+ *   - `readings` points at `count` readings, and no reading lies inside the controller;
+ *   - one call at a time on one controller: a host with several threads or interrupts locks.
+ * All else is answered: any times, numbers and readings, in any order, and a controller whose
+ * fields were altered. Call at least every 20 ms: the rule of 80 ms without a sound sample is
+ * judged when a call is made.
+ *
+ * Link with libpost.a, for x86-64 Linux (System V calling convention).
+ */
+#ifndef CHULDARIIN_H
+#define CHULDARIIN_H
+
+#include <stdbool.h>
+#include <stddef.h>
+#include <stdint.h>
+
+#ifdef __cplusplus
+extern "C" {
+#define CHULDARIIN_ASSERT(test) static_assert(test, #test)
+#define CHULDARIIN_ALIGNOF(type) alignof(type)
+#else
+#define CHULDARIIN_ASSERT(test) _Static_assert(test, #test)
+#define CHULDARIIN_ALIGNOF(type) _Alignof(type)
+#endif
+
+/* Why a call is refused. Of several reasons the order is 3, 2, then the rest by number. */
+enum {
+    /* The call was accepted. */
+    CHULDARIIN_ACCEPTED = 0,
+    /* begin: rated is not 6,000 to 80,000 mA, or pause is neither 0 nor 1,000 to 60,000 ms.
+     * Other calls: no begin was accepted for this controller, or something wrote into it: its wave,
+     * limit, rated or pause is out of range, a stored time is after the last accepted call, or
+     * closings are above 1,000,000,001. Begin again, and look for the stray write. */
+    CHULDARIIN_REFUSED_SETTINGS = 1,
+    /* The time is before that of the last accepted call or begin. Use a clock that never goes back. */
+    CHULDARIIN_REFUSED_EARLIER = 2,
+    /* The time is above 1,000,000,000,000 ms. Count from the start of the post, in milliseconds. */
+    CHULDARIIN_REFUSED_LATE = 3,
+    /* The window has fewer than 256 or more than 1,024 readings. */
+    CHULDARIIN_REFUSED_LENGTH = 4,
+    /* A reading is below -15,000 or above 15,000 mV. Check the scale and the ADC. */
+    CHULDARIIN_REFUSED_READING = 5,
+    /* No reading has 8 readings, itself counted, within 200 mV. The pilot line is too noisy. */
+    CHULDARIIN_REFUSED_UNSUPPORTED = 6,
+    /* A limit is above 80,000 mA, or a measured current above 200,000 mA. */
+    CHULDARIIN_REFUSED_CURRENT = 7,
+    /* A fault's kind is not 3, 4 or 5. Faults 1 and 2 are the controller's own. */
+    CHULDARIIN_REFUSED_KIND = 8,
+    /* chuldariin_reading: the duty is above 1000. */
+    CHULDARIIN_REFUSED_DUTY = 9,
+    /* chuldariin_duty: the current is below 6,000 mA, which no duty announces. */
+    CHULDARIIN_REFUSED_TOO_LOW = 10
+};
+
+/* The faults. */
+enum {
+    CHULDARIIN_FAULT_NONE = 0,
+    CHULDARIIN_FAULT_DIODE = 1,        /* the van's pilot diode is missing */
+    CHULDARIIN_FAULT_OVERCURRENT = 2,  /* more than 1.1 times the announced current for 5 s */
+    CHULDARIIN_FAULT_RESIDUAL = 3,     /* residual current */
+    CHULDARIIN_FAULT_WELDED = 4,       /* welded contact */
+    CHULDARIIN_FAULT_TEMPERATURE = 5   /* over-temperature */
+};
+
+/* What a duty tells a van. */
+enum {
+    CHULDARIIN_NO_CHARGING = 0,
+    CHULDARIIN_DIGITAL_ONLY = 1,
+    CHULDARIIN_CURRENT = 2
+};
+
+/* ---- The controller. The host may read it; only the calls write it. ---- */
+
+/* What the host set at begin. */
+struct chuldariin_settings {
+    uint32_t rated;   /* rated current of the post, mA */
+    uint64_t pause;   /* least time between an opening and the next closing, ms */
+    bool ventilation; /* whether the post has ventilation */
+};
+
+/* A time that may be empty. */
+struct chuldariin_moment {
+    bool set;      /* whether there is one */
+    uint64_t time; /* ms; of no meaning unless set */
+};
+
+/* The latched faults, in the order of their numbers. */
+struct chuldariin_faults {
+    bool diode;
+    bool overcurrent;
+    bool residual;
+    bool welded;
+    bool temperature;
+};
+
+/* What a sample was found to be. */
+struct chuldariin_verdict {
+    uint8_t band;  /* of the high level: 'A' to 'E', 0 for none */
+    bool sound;    /* high between 1,500 and 7,500 mV and, under a driven wave, low in its band */
+    bool proven;   /* under a driven wave: a ready van with a sound diode */
+    bool diodebad; /* under a driven wave: B, C or D without a low half */
+};
+
+/* The previous sample. */
+struct chuldariin_previous {
+    bool kept; /* whether there is one; the verdict is of no meaning otherwise */
+    struct chuldariin_verdict verdict;
+};
+
+struct chuldariin_controller {
+    struct chuldariin_settings settings;
+    uint32_t limit;                      /* the depot's limit, mA */
+    uint32_t wave;                       /* the wave command, tenths of a percent */
+    bool closed;                         /* the contactor command */
+    uint8_t settled;                     /* the settled state, 'A' to 'E'; any other number is U */
+    struct chuldariin_faults faults;
+    uint64_t last;                       /* time of the last accepted call, or of begin, ms */
+    struct chuldariin_moment sound;      /* the last sound sample */
+    struct chuldariin_moment opening;    /* the last opening */
+    struct chuldariin_moment overrun;    /* the start of the over-run */
+    struct chuldariin_moment stop;       /* the start of the stop */
+    struct chuldariin_previous previous; /* the previous sample */
+    uint32_t closings;                   /* how often the contactor has closed since begin */
+};
+
+/* What a call tells. Beside refusals 1 to 8 stands the rest as the controller has it; a refused
+ * begin has zeros there. */
+struct chuldariin_reply {
+    uint8_t refusal;   /* 0 if accepted, else CHULDARIIN_REFUSED_... */
+    uint8_t letter;    /* the state: 'A' to 'E', 'U' unsettled, 'F' a fault is latched */
+    uint8_t digit;     /* 2 if the wave is driven, else 1; 0 for U, E and F */
+    uint32_t wave;     /* 0 steady -12 V, 1000 steady +12 V, 100 to 960 a duty, tenths of a percent */
+    bool closed;       /* the contactor command */
+    uint8_t fault;     /* 0, or a latched fault */
+    uint32_t closings; /* how often the contactor has closed since begin */
+};
+
+/* What a van reads from a duty. */
+struct chuldariin_read {
+    uint8_t refusal;  /* 0, or 9 */
+    uint8_t kind;     /* CHULDARIIN_NO_CHARGING, _DIGITAL_ONLY or _CURRENT */
+    uint32_t current; /* mA; 0 for the other kinds */
+};
+
+/* The greatest duty for an available current. */
+struct chuldariin_sent {
+    uint8_t refusal; /* 0, or 10 */
+    uint32_t duty;   /* tenths of a percent; 0 if refused */
+};
+
+/* The layout that the archive was compiled for. */
+CHULDARIIN_ASSERT(sizeof(bool) == 1);
+CHULDARIIN_ASSERT(sizeof(struct chuldariin_controller) == 128);
+CHULDARIIN_ASSERT(CHULDARIIN_ALIGNOF(struct chuldariin_controller) == 8);
+CHULDARIIN_ASSERT(offsetof(struct chuldariin_controller, limit) == 24);
+CHULDARIIN_ASSERT(offsetof(struct chuldariin_controller, wave) == 28);
+CHULDARIIN_ASSERT(offsetof(struct chuldariin_controller, closed) == 32);
+CHULDARIIN_ASSERT(offsetof(struct chuldariin_controller, settled) == 33);
+CHULDARIIN_ASSERT(offsetof(struct chuldariin_controller, faults) == 34);
+CHULDARIIN_ASSERT(offsetof(struct chuldariin_controller, last) == 40);
+CHULDARIIN_ASSERT(offsetof(struct chuldariin_controller, sound) == 48);
+CHULDARIIN_ASSERT(offsetof(struct chuldariin_controller, opening) == 64);
+CHULDARIIN_ASSERT(offsetof(struct chuldariin_controller, overrun) == 80);
+CHULDARIIN_ASSERT(offsetof(struct chuldariin_controller, stop) == 96);
+CHULDARIIN_ASSERT(offsetof(struct chuldariin_controller, previous) == 112);
+CHULDARIIN_ASSERT(offsetof(struct chuldariin_controller, closings) == 120);
+CHULDARIIN_ASSERT(sizeof(struct chuldariin_reply) == 16);
+CHULDARIIN_ASSERT(CHULDARIIN_ALIGNOF(struct chuldariin_reply) == 4);
+CHULDARIIN_ASSERT(offsetof(struct chuldariin_reply, wave) == 4);
+CHULDARIIN_ASSERT(offsetof(struct chuldariin_reply, closed) == 8);
+CHULDARIIN_ASSERT(offsetof(struct chuldariin_reply, fault) == 9);
+CHULDARIIN_ASSERT(offsetof(struct chuldariin_reply, closings) == 12);
+CHULDARIIN_ASSERT(sizeof(struct chuldariin_read) == 8);
+CHULDARIIN_ASSERT(sizeof(struct chuldariin_sent) == 8);
+
+/* ---- The calls. Times are in milliseconds, 0 to 1,000,000,000,000, and never go back. ---- */
+
+/* Starts afresh: nothing settled, wave 1000, contactor open, limit 0, no fault, closings 0.
+ * rated: 6,000 to 80,000 mA. pause: 1,000 to 60,000 ms, or 0 for 3,000. Refused: 3, 1. */
+struct chuldariin_reply chuldariin_begin(struct chuldariin_controller *c, uint64_t time, uint32_t rated,
+                                         uint64_t pause, bool ventilation);
+
+/* A window of 256 to 1,024 readings of the pilot line, -15,000 to 15,000 mV, only read.
+ * It should span whole periods of the wave. Refused: 3, 2, 1, 4, 5, 6. */
+struct chuldariin_reply chuldariin_sample(struct chuldariin_controller *c, uint64_t time,
+                                          const int32_t *readings, size_t count);
+
+/* The depot's limit, 0 to 80,000 mA. Refused: 3, 2, 1, 7. */
+struct chuldariin_reply chuldariin_limit(struct chuldariin_controller *c, uint64_t time, uint32_t current);
+
+/* The largest line current measured, 0 to 200,000 mA. Refused: 3, 2, 1, 7. */
+struct chuldariin_reply chuldariin_measure(struct chuldariin_controller *c, uint64_t time, uint32_t current);
+
+/* A fault from outside: CHULDARIIN_FAULT_RESIDUAL, _WELDED or _TEMPERATURE. Refused: 3, 2, 1, 8. */
+struct chuldariin_reply chuldariin_fault(struct chuldariin_controller *c, uint64_t time, uint32_t kind);
+
+/* Drops every latched fault. Refused: 3, 2, 1. */
+struct chuldariin_reply chuldariin_clear(struct chuldariin_controller *c, uint64_t time);
+
+/* Nothing but the time. Refused: 3, 2, 1. */
+struct chuldariin_reply chuldariin_tick(struct chuldariin_controller *c, uint64_t time);
+
+/* ---- Without a controller. ---- */
+
+/* What a van reads from a duty in tenths of a percent. Refused: 9. */
+struct chuldariin_read chuldariin_reading(uint32_t duty);
+
+/* The greatest duty, 100 to 960, that announces no more than the available current. Refused: 10. */
+struct chuldariin_sent chuldariin_duty(uint32_t current);
+
+#undef CHULDARIIN_ASSERT
+#undef CHULDARIIN_ALIGNOF
+
+#ifdef __cplusplus
+}
+#endif
+
+#endif
