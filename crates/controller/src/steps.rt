@@ -7,7 +7,6 @@ use leaves::moments;
 use leaves::moments::Moment;
 use leaves::samples;
 use leaves::samples::Pair;
-use leaves::waves;
 use units::Millis;
 use units::conditions;
 ghost use mathlib.Core.Path.{_≡_};

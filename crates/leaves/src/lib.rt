@@ -7,4 +7,3 @@ pub mod refusals; // the order of refusals, and their conditions
 pub mod replies; // the reply
 pub mod samples; // this and the previous sample
 pub mod settings; // begin's settings
-pub mod waves; // step 3

@@ -1,5 +1,5 @@
 // The reply: what is shown of a controller, beside the refusal number.
-use crate::waves;
+use crate::samples;
 use units::conditions;
 ghost use mathlib.Core.Path.{_≡_};
 ghost use mathlib.Core.Bool.{_||_, cond};
@@ -41,7 +41,7 @@ fn letter_by(faulted: bool, known: bool, settled: u8) -> u8
 pub fn letter(faulted: bool, settled: u8) -> u8
     ensures { λ r. ⌜ r ≡ cond faulted letterF (cond (isLetter settled) settled letterU) ⌝ }
 {
-    let known = waves::is_letter(settled);
+    let known = samples::is_letter(settled);
     letter_by(faulted, known, settled)
 }
 

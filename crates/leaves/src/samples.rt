@@ -4,6 +4,7 @@ use units::conditions;
 ghost use mathlib.Core.Path.{_≡_};
 ghost use mathlib.Core.Bool.{true, cond};
 ghost use Rattle.rules.specs.State.{noVerdict, forgotten};
+ghost use Rattle.rules.specs.Step3Wave.{isLetter};
 ghost use Rattle.rules.specs.Pairs.{paired, sameBand, inOneBand, bothProven, bothDiodeBad, bothUnsound};
 ghost use Rattle.leaves.specs.Views.{asPrevious, asPair};
 
@@ -128,4 +129,13 @@ impl Pair {
         let paired = self.paired();
         conditions::only(paired, self.previous.verdict.sound, self.this.sound)
     }
+}
+
+// A settled state: one of A to E.
+pub fn is_letter(settled: u8) -> bool
+    ensures { λ r. ⌜ r ≡ isLetter settled ⌝ }
+{
+    let not_below = b'A' <= settled;
+    let not_above = settled <= b'E';
+    conditions::both(not_below, not_above)
 }

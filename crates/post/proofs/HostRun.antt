@@ -41,8 +41,7 @@ lent-on c before (call ∷ calls) (reply ∷ replies) final (after, answers, res
 
 pub has-host-run : (lent : RefT Controller) (begin : Begin) (calls : List Call) → beginRefusal begin ≡ 0 → HasHostRun lent begin calls
 has-host-run lent begin calls accepted =
-    let (begun, replies, final, run, same) = has-run (now lent) begin calls accepted in
-    (
+    let (begun, replies, final, run, same) = has-run (now lent) begin calls accepted in (
       begun,
       replies,
       final,

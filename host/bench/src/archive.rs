@@ -3,6 +3,11 @@
 use chuldariin::raw::{self, Controller, Reply};
 use chuldariin_model::{Begin, Event};
 
+/// How far the archive's sample starts after a multiple of 64 bytes.
+pub fn place() -> usize {
+    raw::chuldariin_sample as *const () as usize % 64
+}
+
 /// A controller of the archive.
 #[derive(Clone, Copy)]
 pub struct Archive {

@@ -1,6 +1,6 @@
 //! How the time of a sample grows with the window.
 
-use crate::readings::{self, Order};
+use crate::readings;
 use crate::search::{against_rust, worst_order};
 use crate::table::{commas, ns, spread, Table};
 use crate::timing::{median, ratio, Effort};
@@ -22,26 +22,23 @@ fn print(
         &per_unit,
         "archive / rust",
     ]);
-    for length in LENGTHS {
-        let (archive, rust) = against_rust(&window(length), effort);
-        let middle = median(&archive);
+    let windows = LENGTHS.map(window);
+    let times = against_rust(&windows, effort);
+    for (length, (archive, rust)) in LENGTHS.into_iter().zip(&times) {
+        let middle = median(archive);
         table.row(vec![
             commas(length),
             ns(middle),
             ns(median(&rust.fastest)),
             format!("{:.3}", middle / steps(length) as f64),
-            spread(&ratio(&archive, &rust.fastest)),
+            spread(&ratio(archive, &rust.fastest)),
         ]);
     }
     table.print();
 }
 
 pub fn run(effort: Effort) {
-    let few_rounds = Effort {
-        rounds: effort.rounds.min(5),
-        ..effort
-    };
-    let (order, _): (Order, Table) = worst_order(few_rounds);
+    let (order, _) = worst_order(effort);
     println!("4. Growth of a whole sample call with the window (no target)\n");
     println!("Clean window");
     print("reading", |n| n, |n| readings::charging(20, n), effort);

@@ -45,7 +45,7 @@ fn main() -> ExitCode {
 fn measure(options: &Options) {
     let effort = if options.quick { QUICK } else { FULL };
     println!(
-        "The proved archive beside plain Rust, round by round in one run: medians of {} rounds, ratio of medians (quartiles of the ratios in the rounds).",
+        "The proved archive beside plain Rust, round by round in one run: medians of {} rounds; of the ratios in the rounds the middle (lower..upper quartile).",
         effort.rounds
     );
     if cfg!(debug_assertions) {

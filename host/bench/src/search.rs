@@ -1,10 +1,11 @@
 //! The window search: the archive against plain Rust.
 
+use crate::archive::place;
 use crate::check::all_agree_on;
 use crate::drive::{charging, DRIVEN_TO};
 use crate::readings::{self, Order};
 use crate::table::{commas, ns, spread, verdict, Table};
-use crate::timing::{contest, less, median, ratio, Contestant, Effort, Times};
+use crate::timing::{contest, less, median, ranking, ratio, Contestant, Effort, Times};
 use crate::window::{copies, sorting, without_skip, Search};
 use std::hint::black_box;
 
@@ -34,6 +35,8 @@ struct Timed {
     rust: Rust,
     /// With differences of 64 bits, at its fastest place.
     wide: Times,
+    /// With the archive's tick after it, at its fastest place.
+    then_tick: Times,
     without_skip: Times,
     sorting: Times,
     model: Times,
@@ -69,12 +72,23 @@ fn places<const WIDE: bool>(window: &[i32]) -> impl Iterator<Item = Contestant<'
 }
 
 /// Takes the times of the four places.
-fn rust(mut times: Vec<Times>) -> Rust {
-    times.sort_by(|one, other| median(one).total_cmp(&median(other)));
+fn rust(times: &[Times]) -> Rust {
+    let order = ranking(&times.iter().collect::<Vec<_>>());
     Rust {
-        slowest: times.pop().expect("four places"),
-        fastest: times.swap_remove(0),
+        fastest: times[order[0]].clone(),
+        slowest: times[order[order.len() - 1]].clone(),
     }
+}
+
+/// The same, each time with the archive's tick after it: nearly a whole sample call.
+fn places_then_tick(window: &[i32]) -> impl Iterator<Item = Contestant<'_>> {
+    copies::<false>().into_iter().map(move |copy| {
+        let mut archive = charging().archive;
+        Contestant::new(move || {
+            let _ = black_box(copy(black_box(window)));
+            black_box(archive.tick(black_box(DRIVEN_TO)));
+        })
+    })
 }
 
 fn time(window: &[i32], effort: Effort) -> Timed {
@@ -88,51 +102,54 @@ fn time(window: &[i32], effort: Effort) -> Timed {
     ];
     contestants.extend(places::<false>(window));
     contestants.extend(places::<true>(window));
-    let mut times = contest(contestants, effort);
-    let wide = rust(times.split_off(9));
-    let narrow = rust(times.split_off(5));
-    let mut rest = times.into_iter();
-    let mut next = || rest.next().expect("five contestants");
-    let (sample, tick) = (next(), next());
+    contestants.extend(places_then_tick(window));
+    let times = contest(contestants, effort);
     Timed {
-        search: less(&sample, &tick),
-        sample,
-        without_skip: next(),
-        sorting: next(),
-        model: next(),
-        rust: narrow,
-        wide: wide.fastest,
+        sample: times[0].clone(),
+        search: less(&times[0], &times[1]),
+        without_skip: times[2].clone(),
+        sorting: times[3].clone(),
+        model: times[4].clone(),
+        rust: rust(&times[5..9]),
+        wide: rust(&times[9..13]).fastest,
+        then_tick: rust(&times[13..]).fastest,
     }
 }
 
-/// The archive's sample against the same algorithm.
-pub fn against_rust(window: &[i32], effort: Effort) -> (Times, Rust) {
-    all_agree_on(window);
-    let mut contestants = vec![sample(window)];
-    contestants.extend(places::<false>(window));
-    let mut times = contest(contestants, effort);
-    let archive = times.remove(0);
-    (archive, rust(times))
+/// The archive's sample and the same algorithm, on some windows in one contest.
+pub fn against_rust(windows: &[Vec<i32>], effort: Effort) -> Vec<(Times, Rust)> {
+    let mut contestants = Vec::new();
+    for window in windows {
+        all_agree_on(window);
+        contestants.push(sample(window));
+        contestants.extend(places::<false>(window));
+    }
+    contest(contestants, effort)
+        .chunks(5)
+        .map(|times| (times[0].clone(), rust(&times[1..])))
+        .collect()
 }
 
 /// The order of an unsupported window that takes the archive longest, with a table of all orders.
 pub fn worst_order(effort: Effort) -> (Order, Table) {
+    let few_rounds = Effort {
+        rounds: effort.rounds.min(21),
+        ..effort
+    };
+    let windows = Order::ALL.map(|order| readings::unsupported(order, 1_024));
+    let times = against_rust(&windows, few_rounds);
     let mut table = Table::new(&["order", "archive ns", "rust ns", "archive / rust"]);
-    let mut worst = (0.0, Order::Shuffled);
-    for order in Order::ALL {
-        let window = readings::unsupported(order, 1_024);
-        let (archive, rust) = against_rust(&window, effort);
-        if median(&archive) > worst.0 {
-            worst = (median(&archive), order);
-        }
+    for (order, (archive, rust)) in Order::ALL.iter().zip(&times) {
         table.row(vec![
             order.name().to_string(),
-            ns(median(&archive)),
+            ns(median(archive)),
             ns(median(&rust.fastest)),
-            spread(&ratio(&archive, &rust.fastest)),
+            spread(&ratio(archive, &rust.fastest)),
         ]);
     }
-    (worst.1, table)
+    let archive: Vec<&Times> = times.iter().map(|(archive, _)| archive).collect();
+    let slowest = ranking(&archive)[archive.len() - 1];
+    (Order::ALL[slowest], table)
 }
 
 fn cases(worst: Order) -> Vec<Case> {
@@ -160,15 +177,16 @@ const HEAD: &str = "\
    few: 16 readings supported; worst: none supported, in the slowest order of those below.
    search: the archive's sample less its tick.
    rust: the same algorithm, at the fastest of four places in memory; slow place: at the slowest;
-   64 bits: with differences of 64 bits, as the archive has them, at the fastest.";
+   64 bits: with differences of 64 bits, as the archive has them, at the fastest;
+   rust + tick: with the archive's tick after it, at the fastest: nearly a whole sample call.";
 
 pub fn run(effort: Effort) {
-    println!("{HEAD}\n");
-    let few_rounds = Effort {
-        rounds: effort.rounds.min(11),
-        ..effort
-    };
-    let (order, orders) = worst_order(few_rounds);
+    println!("{HEAD}");
+    println!(
+        "   The archive's sample starts {} bytes after a multiple of 64.\n",
+        place()
+    );
+    let (order, orders) = worst_order(effort);
     println!(
         "Orders of 1,024 readings without support (worst: {})",
         order.name()
@@ -199,6 +217,7 @@ fn print_times(timed: &[(Case, Timed)]) {
         "rust",
         "slow place",
         "64 bits",
+        "rust + tick",
         "no skip",
         "sort",
         "full count",
@@ -210,6 +229,7 @@ fn print_times(timed: &[(Case, Timed)]) {
             &times.rust.fastest,
             &times.rust.slowest,
             &times.wide,
+            &times.then_tick,
             &times.without_skip,
             &times.sorting,
             &times.model,
@@ -226,22 +246,25 @@ fn print_ratios(timed: &[(Case, Timed)]) {
     let mut table = Table::new(&[
         "window",
         "target",
+        "sample / (rust + tick)",
+        "",
         "search / rust",
         "",
-        "whole sample / rust",
+        "sample / rust",
         "",
     ]);
     for (case, times) in timed {
-        let search = ratio(&times.search, &times.rust.fastest);
-        let whole = ratio(&times.sample, &times.rust.fastest);
-        table.row(vec![
-            name(case),
-            format!("<= {:.1}", case.target),
-            spread(&search),
-            verdict(&search, case.target),
-            spread(&whole),
-            verdict(&whole, case.target),
-        ]);
+        let ratios = [
+            ratio(&times.sample, &times.then_tick),
+            ratio(&times.search, &times.rust.fastest),
+            ratio(&times.sample, &times.rust.fastest),
+        ];
+        let mut row = vec![name(case), format!("<= {:.1}", case.target)];
+        for ratio in ratios {
+            row.push(spread(&ratio));
+            row.push(verdict(&ratio, case.target));
+        }
+        table.row(row);
     }
     table.print();
 }

@@ -61,17 +61,17 @@ pub fn ns(time: f64) -> String {
     }
 }
 
-/// A ratio with its quartiles.
+/// The middle ratio, with the lower and the upper quartile.
 pub fn spread(ratio: &Ratio) -> String {
     format!(
         "{:.3} ({:.3}..{:.3})",
-        ratio.value, ratio.lower, ratio.upper
+        ratio.middle, ratio.lower, ratio.upper
     )
 }
 
 /// Whether a target was met, and whether it lies within the quartiles.
 pub fn verdict(ratio: &Ratio, target: f64) -> String {
-    let met = if ratio.value <= target {
+    let met = if ratio.middle <= target {
         "met"
     } else {
         "missed"

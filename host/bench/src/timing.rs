@@ -75,20 +75,35 @@ pub fn median(times: &[f64]) -> f64 {
     at_part(times, 0.5)
 }
 
-/// Ratio of two medians, with the quartiles of the ratios in the rounds.
+/// Quartiles of the ratios in the rounds.
+///
+/// The machine's speed may change from round to round, and by much. Both sides of a ratio are of one
+/// round, so that it stands; the medians of the two sides may be of different speeds.
 pub struct Ratio {
-    pub value: f64,
+    pub middle: f64,
     pub lower: f64,
     pub upper: f64,
 }
 
 pub fn ratio(times: &[f64], others: &[f64]) -> Ratio {
-    let by_round: Vec<f64> = times.iter().zip(others).map(|(t, o)| t / o).collect();
+    let ratios: Vec<f64> = times.iter().zip(others).map(|(t, o)| t / o).collect();
     Ratio {
-        value: median(times) / median(others),
-        lower: at_part(&by_round, 0.25),
-        upper: at_part(&by_round, 0.75),
+        middle: median(&ratios),
+        lower: at_part(&ratios, 0.25),
+        upper: at_part(&ratios, 0.75),
     }
+}
+
+/// Places of the contestants in order, the fastest first, by their shares of the rounds.
+pub fn ranking(contestants: &[&Times]) -> Vec<usize> {
+    let rounds = contestants[0].len();
+    let sums: Times = (0..rounds)
+        .map(|round| contestants.iter().map(|times| times[round]).sum())
+        .collect();
+    let share = |who: &usize| ratio(contestants[*who], &sums).middle;
+    let mut order: Vec<usize> = (0..contestants.len()).collect();
+    order.sort_by(|one, other| share(one).total_cmp(&share(other)));
+    order
 }
 
 /// What is left in each round after other times are taken off.

@@ -20,7 +20,12 @@ pub struct Author {
 }
 
 /// Writes a list from a controller of zeros. After a difference the report of it.
-pub fn write(name: &str, seed: u64, tally: &mut Tally, list: impl Fn(&mut Author) -> Played) -> Result<(), String> {
+pub fn write(
+    name: &str,
+    seed: u64,
+    tally: &mut Tally,
+    list: impl Fn(&mut Author) -> Played,
+) -> Result<(), String> {
     write_from(blank(), name, seed, tally, list)
 }
 
@@ -69,10 +74,10 @@ impl Author {
 
     /// A time at which a list may start.
     pub fn start(&mut self) -> u64 {
-        match self.dice.between(0, 7) {
-            0..=2 => 0,
-            3 => LARGEST - self.dice.between(0, 20_000),
-            4 => self.dice.between(0, LARGEST),
+        match self.dice.between(0, 15) {
+            0..=4 => 0,
+            5 => LARGEST - self.dice.between(0, 20_000),
+            6..=8 => self.dice.between(0, LARGEST - 1_000_000),
             _ => self.dice.between(0, 100_000),
         }
     }

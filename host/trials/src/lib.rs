@@ -20,6 +20,7 @@
 //! | `noise` | calls to be refused, and calls of any kind |
 //! | `scenes` | what happens at a charging post |
 //! | `odds` | scenes of windows, faults and clocks |
+//! | `wild` | controllers that a host has altered |
 //!
 //! Units: levels in mV, currents in mA, times in ms, duty in tenths of a percent.
 
@@ -36,4 +37,5 @@ pub mod shrink;
 pub mod tally;
 pub mod text;
 pub mod trial;
+pub mod wild;
 pub mod windows;

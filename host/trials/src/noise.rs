@@ -75,10 +75,11 @@ impl Author {
     /// A time at a threshold of the present state, now and then a bad one.
     pub fn edge_time(&mut self) -> u64 {
         let last = self.state().last;
-        match self.dice.between(0, 31) {
-            0 => self.dice.pick(&[LARGEST, LARGEST + 1, u64::MAX]),
-            1 => self.dice.pick(&[0, last / 2, last.wrapping_sub(1)]),
-            2..=15 => last.saturating_add(self.dice.between(0, 20)),
+        match self.dice.between(0, 255) {
+            0 => LARGEST,
+            1..=6 => self.dice.pick(&[LARGEST + 1, u64::MAX]),
+            7..=14 => self.dice.pick(&[0, last / 2, last.wrapping_sub(1)]),
+            15..=127 => last.saturating_add(self.dice.between(0, 20)),
             _ => {
                 let times = times(&self.state());
                 self.dice.pick(&times)

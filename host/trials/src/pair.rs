@@ -129,9 +129,7 @@ fn ask_for_number(lent: &mut raw::Controller, call: &Call) -> raw::Reply {
     // SAFETY: `lent` is a `&mut`; all else are numbers.
     unsafe {
         match *call {
-            Call::Begin(b) => {
-                raw::chuldariin_begin(lent, b.time, b.rated, b.pause, b.ventilation)
-            }
+            Call::Begin(b) => raw::chuldariin_begin(lent, b.time, b.rated, b.pause, b.ventilation),
             Call::Limit(time, current) => raw::chuldariin_limit(lent, time, current),
             Call::Measure(time, current) => raw::chuldariin_measure(lent, time, current),
             Call::Fault(time, kind) => raw::chuldariin_fault(lent, time, kind),

@@ -107,7 +107,10 @@ pub fn unsound(author: &mut Author) -> Played {
 
 /// Now and then a call that is no sample.
 fn between(author: &mut Author) -> Played {
-    let time = author.state().last.saturating_add(author.dice.between(0, 3));
+    let time = author
+        .state()
+        .last
+        .saturating_add(author.dice.between(0, 3));
     match author.dice.between(0, 9) {
         0 => author.say(Call::Tick(time)),
         1 => author.limit(time, &GOOD_LIMITS),
@@ -149,7 +152,11 @@ pub fn starve(author: &mut Author) -> Played {
     let Some(sound) = author.state().sound else {
         return Ok(());
     };
-    let ages: &[u64] = if author.dice.one_in(3) { &[81] } else { &[79, 80, 81] };
+    let ages: &[u64] = if author.dice.one_in(3) {
+        &[81]
+    } else {
+        &[79, 80, 81]
+    };
     for age in ages {
         finish(author, sound + age)?;
     }
@@ -197,9 +204,13 @@ pub fn over_run(author: &mut Author) -> Played {
     let Some(start) = author.state().overrun else {
         return Ok(());
     };
-    if author.dice.one_in(4) {
-        let (time, more) = (author.soon(), author.dice.between(0, 1) as u32);
-        author.say(Call::Measure(time, most + more))?;
+    let time = author.soon();
+    match author.dice.between(0, 7) {
+        0 => author.say(Call::Measure(time, most))?,
+        1 => author.say(Call::Measure(time, most + 1))?,
+        2 => author.limit(time, &LOW_LIMITS)?,
+        3 => author.limit(time, &GOOD_LIMITS)?,
+        _ => {}
     }
     let band = author.ready_band();
     author.hold_until(start + 4_999, band)?;
@@ -232,9 +243,9 @@ pub fn stop(author: &mut Author) -> Played {
         let time = author.soon();
         author.limit(time, &LOW_LIMITS)?;
     }
-    author.hold_until(start + 2_999, Band::C)?;
+    author.hold_until(start + 2_990, Band::C)?;
     if author.dice.one_in(3) {
-        prime_at(author, start + 2_999)?;
+        return pair_at(author, start + 3_000);
     }
     for age in [2_999, 3_000, 3_001] {
         finish(author, start + age)?;
@@ -242,11 +253,13 @@ pub fn stop(author: &mut Author) -> Played {
     Ok(())
 }
 
-/// A sample just before a time, to make a pair with the one at it.
-fn prime_at(author: &mut Author, time: u64) -> Played {
-    let band = author.dice.pick(&[Band::B, Band::D, Band::D]);
-    if time >= author.state().last {
-        author.van_at(time, band)?;
+/// Two samples in one band, the second at this time.
+fn pair_at(author: &mut Author, time: u64) -> Played {
+    let band = author.dice.pick(&[Band::B, Band::D]);
+    for time in [time - author.dice.between(1, 9), time] {
+        if time >= author.state().last {
+            author.van_at(time, band)?;
+        }
     }
     Ok(())
 }
@@ -288,7 +301,10 @@ pub fn late_d(author: &mut Author) -> Played {
 pub fn flicker(author: &mut Author) -> Played {
     close(author)?;
     for _ in 0..author.dice.between(5, 30) {
-        let time = author.state().last.saturating_add(author.dice.between(0, 2));
+        let time = author
+            .state()
+            .last
+            .saturating_add(author.dice.between(0, 2));
         match author.dice.between(0, 7) {
             0 => author.limit(time, &LOW_LIMITS)?,
             1 => author.limit(time, &CURRENTS)?,
@@ -309,7 +325,10 @@ pub fn no_diode(author: &mut Author) -> Played {
         close(author)?;
     }
     for _ in 0..author.dice.between(1, 4) {
-        let (time, band) = (author.soon(), author.dice.pick(&[Band::B, Band::C, Band::D]));
+        let (time, band) = (
+            author.soon(),
+            author.dice.pick(&[Band::B, Band::C, Band::D]),
+        );
         author.no_diode_at(time, band)?;
         match (author.dice.between(0, 3), author.state().sound) {
             (0, Some(sound)) => finish(author, sound + 81)?,

@@ -2,7 +2,7 @@
 
 use crate::call::Call;
 use crate::pair::Seen;
-use chuldariin_model::{Conditions, State};
+use chuldariin_model::{begin, refusal_of_call, Begin, Conditions, Event, State};
 use std::collections::BTreeMap;
 
 /// Sets of opening causes: bit 0 is cause (i), bit 4 is cause (v).
@@ -91,6 +91,7 @@ impl Tally {
         }
         if reply.refusal != 0 {
             self.count("refused", seen.call.word());
+            self.see_order(seen);
             return;
         }
         self.count("accepted", seen.call.word());
@@ -109,6 +110,20 @@ impl Tally {
         }
     }
 
+    /// Refusals where a later one in their order held as well.
+    fn see_order(&mut self, seen: &Seen) {
+        let Some(event) = seen.call.event() else {
+            return;
+        };
+        match seen.told.reply.refusal {
+            3 if seen.call.time() < seen.before.last => self.count("order", "3 over 2"),
+            3 if altered(&seen.before) => self.count("order", "3 over 1"),
+            2 if altered(&seen.before) => self.count("order", "2 over 1"),
+            1 if refused_anyway(&event) => self.count("order", "1 over 4 to 8"),
+            _ => {}
+        }
+    }
+
     fn see_contactor(&mut self, seen: &Seen) {
         let told = &seen.told;
         for (fault, name) in FAULTS.iter().enumerate() {
@@ -122,7 +137,11 @@ impl Tally {
             self.count("opened by", CAUSES[set]);
         }
         if told.closing {
-            let ready = if told.reply.letter == b'D' { "in D" } else { "in C" };
+            let ready = if told.reply.letter == b'D' {
+                "in D"
+            } else {
+                "in C"
+            };
             self.count("closing", ready);
         }
     }
@@ -199,10 +218,14 @@ impl Tally {
         }
     }
 
-    /// The names of a group that never occurred.
-    pub fn missing(&self, group: &'static str, names: &[&'static str]) -> Vec<String> {
-        let never = names.iter().filter(|name| self.of(group, name) == 0);
-        never.map(|name| format!("{group}: {name}")).collect()
+    /// The wanted groups and names that never occurred.
+    pub fn missing(&self, wanted: &[(&'static str, &[&'static str])]) -> Vec<String> {
+        let mut missing = Vec::new();
+        for (group, names) in wanted {
+            let never = names.iter().filter(|name| self.of(group, name) == 0);
+            missing.extend(never.map(|name| format!("{group}: {name}")));
+        }
+        missing
     }
 
     /// A line for each group.
@@ -218,6 +241,25 @@ impl Tally {
         }
         text.push('\n');
         text
+    }
+}
+
+/// Would a call in time be refused by 1?
+fn altered(state: &State) -> bool {
+    refusal_of_call(state, state.last, &Event::Tick) == 1
+}
+
+/// Would a fresh controller refuse this too?
+fn refused_anyway(event: &Event) -> bool {
+    let usual = Begin {
+        time: 0,
+        rated: 32_000,
+        pause: 0,
+        ventilation: false,
+    };
+    match begin(&usual) {
+        Ok((fresh, _)) => refusal_of_call(&fresh, 0, event) != 0,
+        Err(_) => false,
     }
 }
 

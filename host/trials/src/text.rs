@@ -87,7 +87,10 @@ fn parse_line(line: &str) -> Option<Call> {
         }
         ["window", time, readings @ ..] => {
             let readings = readings.iter().map(|word| number(word));
-            Some(Call::Sample(number(time)?, readings.collect::<Option<_>>()?))
+            Some(Call::Sample(
+                number(time)?,
+                readings.collect::<Option<_>>()?,
+            ))
         }
         ["limit", time, current] => Some(Call::Limit(number(time)?, number(current)?)),
         ["measure", time, current] => Some(Call::Measure(number(time)?, number(current)?)),

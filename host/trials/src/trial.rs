@@ -84,10 +84,11 @@ pub fn first_difference(
     None
 }
 
-fn both_sides(d: &Difference) -> String {
+/// What the two sides told and keep, as comments.
+pub fn both_sides(d: &Difference) -> String {
     let what = d.what.join(", ");
     format!(
-        "# differs at the last call: {what}\n# archive told:  {:?}\n# model told:    {:?}\n# archive keeps: {:?}\n# model keeps:   {:?}\n",
+        "# differs: {what}\n# archive told:  {:?}\n# model told:    {:?}\n# archive keeps: {:?}\n# model keeps:   {:?}\n",
         d.said, d.told, d.lent, d.state
     )
 }

@@ -1,7 +1,7 @@
 -- Each way through the code is one case of the definition.
 use Rattle.rules.specs.Step3Wave.{isUAE}
-use Rattle.leaves.proofs.waves.is_u_a_or_e.Statement.{statement}
-use Rattle.leaves.proofs.waves.is_u_a_or_e.Tie as tie
+use Rattle.waves.proofs.is_u_a_or_e.Statement.{statement}
+use Rattle.waves.proofs.is_u_a_or_e.Tie as tie
 
 pub is-u-a-or-e-spec : {M : Type 1} → statement M
 unfolding isUAE

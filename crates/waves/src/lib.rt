@@ -1,7 +1,8 @@
 // Step 3 of an accepted call: the wave, and what follows from it for the over-run and the stop.
-use crate::moments;
-use crate::moments::Moment;
 use duty::Greatest;
+use leaves::moments;
+use leaves::moments::Moment;
+use leaves::samples;
 use units::Milliamps;
 use units::Millis;
 use units::conditions;
@@ -11,23 +12,14 @@ ghost use lib.Dec.{eqb, ltb};
 ghost use Rattle.pilot.specs.Bands.{bandD};
 ghost use Rattle.duty.specs.Answers.{asSends};
 ghost use Rattle.duty.specs.DutyFor.{dutyFor};
-ghost use Rattle.rules.specs.Step3Wave.{steadyLow, steadyHigh, isLetter, isUAE, sent, overrunUnder, stopUnder};
+ghost use Rattle.rules.specs.Step3Wave.{steadyLow, steadyHigh, isUAE, sent, overrunUnder, stopUnder};
 ghost use Rattle.leaves.specs.Views.{asMoment};
-
-// One of A to E.
-pub fn is_letter(settled: u8) -> bool
-    ensures { λ r. ⌜ r ≡ isLetter settled ⌝ }
-{
-    let not_below = b'A' <= settled;
-    let not_above = settled <= b'E';
-    conditions::both(not_below, not_above)
-}
 
 // Settled U, A or E.
 fn is_u_a_or_e(settled: u8) -> bool
     ensures { λ r. ⌜ r ≡ isUAE settled ⌝ }
 {
-    let letter = is_letter(settled);
+    let letter = samples::is_letter(settled);
     let a = settled == b'A';
     let e = settled == b'E';
     conditions::any_of(!letter, a, e)

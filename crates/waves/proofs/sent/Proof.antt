@@ -1,8 +1,8 @@
 -- Each way through the code is one case of the definition.
 use borrow.Author.Needs.{needs}
 use Rattle.rules.specs.Step3Wave.{sent}
-use Rattle.leaves.proofs.waves.sent.Statement.{statement}
-use Rattle.leaves.proofs.waves.sent.Tie as tie
+use Rattle.waves.proofs.sent.Statement.{statement}
+use Rattle.waves.proofs.sent.Tie as tie
 
 pub sent-spec : {M : Type 1} → statement M
 unfolding sent

@@ -1,7 +1,7 @@
 -- Each way through the code is one case of the definition.
 use Rattle.rules.specs.Step3Wave.{stopUnder}
-use Rattle.leaves.proofs.waves.stop_under.Statement.{statement}
-use Rattle.leaves.proofs.waves.stop_under.Tie as tie
+use Rattle.waves.proofs.stop_under.Statement.{statement}
+use Rattle.waves.proofs.stop_under.Tie as tie
 
 pub stop-under-spec : {M : Type 1} → statement M
 unfolding stopUnder

@@ -1,6 +1,6 @@
 -- Each way through the code is one case of the definition.
-use Rattle.leaves.proofs.waves.wave_for.Statement.{statement}
-use Rattle.leaves.proofs.waves.wave_for.Tie as tie
+use Rattle.waves.proofs.wave_for.Statement.{statement}
+use Rattle.waves.proofs.wave_for.Tie as tie
 
 pub wave-for-spec : {M : Type 1} → statement M
 wave-for-spec = tie.close (tie.spec (λ c κs. tt) (λ c κs. tt) (λ c κs. tt) (λ c. cc))

@@ -1,0 +1,45 @@
+//! Replays a list of calls from standard input on both sides, from a controller
+//! of zeros, and tells what both answered:
+//!
+//!     cargo run --release --example replay < list.txt
+//!
+//! It ends in failure at the first call on which the two sides differ.
+
+use chuldariin_model::Reply;
+use chuldariin_trials::meaning::blank;
+use chuldariin_trials::pair::Pair;
+use chuldariin_trials::text::parse;
+use chuldariin_trials::trial::both_sides;
+use std::io::Read;
+
+fn main() -> Result<(), String> {
+    let mut text = String::new();
+    let read = std::io::stdin().read_to_string(&mut text);
+    read.map_err(|error| error.to_string())?;
+    let mut pair = Pair::of(blank());
+    for call in parse(&text)? {
+        match pair.step(&call) {
+            Ok(seen) => println!("{call}\n# {}", told(&seen.told.reply)),
+            Err(difference) => {
+                println!("{call}\n{}", both_sides(&difference));
+                return Err("the two sides differ".to_string());
+            }
+        }
+    }
+    Ok(())
+}
+
+fn told(reply: &Reply) -> String {
+    let faults = (1..=5).filter(|&fault| reply.faults[fault - 1]);
+    let faults: Vec<String> = faults.map(|fault| fault.to_string()).collect();
+    format!(
+        "refusal {}, {}{}, wave {}, {}, faults [{}], closings {}",
+        reply.refusal,
+        char::from(reply.letter),
+        reply.digit,
+        reply.wave,
+        if reply.closed { "closed" } else { "open" },
+        faults.join(" "),
+        reply.closings
+    )
+}

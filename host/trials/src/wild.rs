@@ -1,0 +1,148 @@
+//! Controllers that a host has altered.
+
+use crate::dice::Dice;
+use crate::edges::{BAD_PAUSES, BAD_RATED, LARGEST};
+use crate::meaning::blank;
+use chuldariin::raw;
+
+/// Settled states and bands: letters, and bytes that are none.
+pub const BYTES: [u8; 14] = [
+    b'A', b'B', b'C', b'D', b'E', 0, 1, 7, b'@', b'F', b'U', b'a', b'c', 255,
+];
+
+/// Ages of stored times, at the ends of their rules, ms.
+pub const AGES: [u64; 16] = [
+    0, 1, 79, 80, 81, 999, 1_000, 2_999, 3_000, 3_001, 4_999, 5_000, 5_001, 59_999, 60_000, 90_000,
+];
+
+/// Closings around their end.
+pub const CLOSINGS: [u32; 7] = [
+    0,
+    1,
+    1_000_000_000,
+    1_000_000_001,
+    1_000_000_002,
+    u32::MAX - 1,
+    u32::MAX,
+];
+
+/// A controller of any content, so that most calls on it are accepted.
+pub fn wild(dice: &mut Dice) -> raw::Controller {
+    let last = wild_last(dice);
+    let mut c = blank();
+    c.settings = wild_settings(dice);
+    c.limit = seldom(
+        dice,
+        &[80_001, u32::MAX],
+        &[0, 5_999, 6_000, 32_000, 80_000],
+    );
+    c.wave = seldom(
+        dice,
+        &[1, 99, 961, 999, 1_001, u32::MAX],
+        &[0, 100, 533, 960, 1_000],
+    );
+    c.closed = dice.one_in(2);
+    c.settled = wild_byte(dice);
+    c.faults = wild_faults(dice);
+    c.last = last;
+    c.sound = wild_moment(dice, last);
+    c.opening = wild_moment(dice, last);
+    c.overrun = wild_moment(dice, last);
+    c.stop = wild_moment(dice, last);
+    c.previous = wild_previous(dice);
+    c.closings = seldom(dice, &CLOSINGS, &[0, 1, 1_000_000_000, 1_000_000_001]);
+    c
+}
+
+/// Mostly one of the usual ones.
+fn seldom<T: Copy>(dice: &mut Dice, odd: &[T], usual: &[T]) -> T {
+    if dice.one_in(40) {
+        dice.pick(odd)
+    } else {
+        dice.pick(usual)
+    }
+}
+
+fn wild_last(dice: &mut Dice) -> u64 {
+    let odd = [
+        0,
+        1,
+        LARGEST - 1,
+        LARGEST,
+        LARGEST + 1,
+        u64::MAX - 1,
+        u64::MAX,
+    ];
+    if dice.one_in(16) {
+        dice.pick(&odd)
+    } else {
+        dice.pick(&[70_000, 100_000, LARGEST / 2])
+    }
+}
+
+fn wild_settings(dice: &mut Dice) -> raw::Settings {
+    raw::Settings {
+        rated: seldom(dice, &BAD_RATED, &[6_000, 32_000, 52_000, 80_000]),
+        pause: match dice.one_in(40) {
+            true => dice.pick(&[0, BAD_PAUSES[2], BAD_PAUSES[3], u64::MAX]),
+            false => dice.pick(&[1_000, 3_000, 60_000]),
+        },
+        ventilation: dice.one_in(2),
+    }
+}
+
+/// Half of them C or D.
+fn wild_byte(dice: &mut Dice) -> u8 {
+    if dice.one_in(2) {
+        dice.pick(b"CD")
+    } else {
+        dice.pick(&BYTES)
+    }
+}
+
+/// None in two of three cases, else any of them.
+fn wild_faults(dice: &mut Dice) -> raw::Faults {
+    let some = dice.one_in(3);
+    faults(if some { dice.between(0, 31) } else { 0 })
+}
+
+/// The faults of a set: bit 0 is fault 1, bit 4 is fault 5.
+pub fn faults(set: u64) -> raw::Faults {
+    raw::Faults {
+        diode: set & 1 != 0,
+        overcurrent: set & 2 != 0,
+        residual: set & 4 != 0,
+        welded: set & 8 != 0,
+        temperature: set & 16 != 0,
+    }
+}
+
+/// Set or not, some age before the last call, seldom after it.
+fn wild_moment(dice: &mut Dice, last: u64) -> raw::Moment {
+    let set = !dice.one_in(3);
+    let before = last.saturating_sub(dice.pick(&AGES));
+    let after = [last.saturating_add(1), u64::MAX];
+    let time = match dice.between(0, 99) {
+        0 => dice.pick(&after),
+        _ if set => before,
+        _ => dice.pick(&[0, before, after[0], after[1]]),
+    };
+    raw::Moment { set, time }
+}
+
+fn wild_previous(dice: &mut Dice) -> raw::Previous {
+    raw::Previous {
+        kept: !dice.one_in(4),
+        verdict: verdict(dice.between(0, 7), wild_byte(dice)),
+    }
+}
+
+/// A verdict of any three bits, which may contradict each other.
+pub fn verdict(bits: u64, band: u8) -> raw::Verdict {
+    raw::Verdict {
+        band,
+        sound: bits & 1 != 0,
+        proven: bits & 2 != 0,
+        diodebad: bits & 4 != 0,
+    }
+}

@@ -1,0 +1,324 @@
+//! Controllers that the host has altered, each field at and beyond its range.
+
+use chuldariin::raw;
+use chuldariin_trials::author::write_from;
+use chuldariin_trials::call::Call;
+use chuldariin_trials::dice::Dice;
+use chuldariin_trials::edges::LARGEST;
+use chuldariin_trials::meaning::blank;
+use chuldariin_trials::tally::{Tally, CAUSES, FAULTS, REFUSALS, STATES};
+use chuldariin_trials::text::parse;
+use chuldariin_trials::trial::Trial;
+use chuldariin_trials::wild::{faults, verdict, wild, AGES, BYTES, CLOSINGS};
+use chuldariin_trials::windows::halves;
+
+const CHARGING: &str = "\
+begin 70000 32000 0 no
+limit 70000 32000
+sample 70010 9000 9000
+sample 70020 9000 9000
+sample 70030 6000 -12000
+sample 70040 6000 -12000
+";
+
+/// Charging in D, with ventilation.
+const CHARGING_D: &str = "\
+begin 70000 80000 1000 yes
+limit 70000 52000
+sample 70010 3000 3000
+sample 70020 3000 3000
+sample 70030 3000 -12000
+sample 70040 3000 -12000
+";
+
+/// What may follow, for a controller with more in it.
+const TAILS: [(&str, &str); 8] = [
+    ("begin 70000 32000 0 no\n", ""),
+    (CHARGING, ""),
+    (CHARGING_D, ""),
+    (CHARGING, "measure 70050 35179\nsample 70060 6000 -12000\n"),
+    (CHARGING, "limit 70050 0\nsample 70060 6000 6000\n"),
+    (CHARGING, "tick 70121\nsample 70130 6000 -12000\n"),
+    (CHARGING, "fault 70050 3\n"),
+    (CHARGING, "sample 70050 6000 0\n"),
+];
+
+/// The controllers that are altered.
+fn bases() -> Vec<raw::Controller> {
+    let lists = TAILS.map(|(head, tail)| format!("{head}{tail}"));
+    let mut bases = Vec::new();
+    for list in lists {
+        let mut trial = Trial::from(blank());
+        for call in parse(&list).expect("a list of calls") {
+            check(&mut trial, call, "before any change");
+        }
+        bases.push(trial.lent());
+    }
+    bases
+}
+
+/// Runs a call; a difference ends the test with its report.
+fn check(trial: &mut Trial, call: Call, name: &str) {
+    if trial.run(call).is_err() {
+        panic!("the two sides differ\n{}", trial.report(name));
+    }
+}
+
+/// A copy for each of these values.
+fn each<T: Copy>(
+    base: &raw::Controller,
+    values: &[T],
+    set: fn(&mut raw::Controller, T),
+) -> Vec<raw::Controller> {
+    let copies = values.iter().map(|&value| {
+        let mut copy = *base;
+        set(&mut copy, value);
+        copy
+    });
+    copies.collect()
+}
+
+fn waves(base: &raw::Controller) -> Vec<raw::Controller> {
+    let values = [
+        0,
+        1,
+        50,
+        99,
+        100,
+        101,
+        850,
+        851,
+        959,
+        960,
+        961,
+        970,
+        999,
+        1_000,
+        1_001,
+        u32::MAX,
+    ];
+    each(base, &values, |c, value| c.wave = value)
+}
+
+fn limits(base: &raw::Controller) -> Vec<raw::Controller> {
+    let values = [0, 5_999, 6_000, 80_000, 80_001, u32::MAX];
+    each(base, &values, |c, value| c.limit = value)
+}
+
+fn rated(base: &raw::Controller) -> Vec<raw::Controller> {
+    let values = [0, 5_999, 6_000, 80_000, 80_001, u32::MAX];
+    each(base, &values, |c, value| c.settings.rated = value)
+}
+
+fn pauses(base: &raw::Controller) -> Vec<raw::Controller> {
+    let values = [0, 1, 999, 1_000, 60_000, 60_001, u64::MAX];
+    each(base, &values, |c, value| c.settings.pause = value)
+}
+
+/// Stored times stay, so that they come to lie above the last one.
+fn lasts(base: &raw::Controller) -> Vec<raw::Controller> {
+    let values = [
+        0,
+        base.last - 1,
+        base.last + 1,
+        LARGEST - 1,
+        LARGEST,
+        LARGEST + 1,
+        u64::MAX,
+    ];
+    each(base, &values, |c, value| c.last = value)
+}
+
+/// Set and not set, at each age, and just and far above the last time.
+fn moments(base: &raw::Controller) -> Vec<raw::Moment> {
+    let mut times = AGES.map(|age| base.last.saturating_sub(age)).to_vec();
+    times.extend([0, base.last + 1, u64::MAX]);
+    let both = times
+        .iter()
+        .flat_map(|&time| [true, false].map(|set| raw::Moment { set, time }));
+    both.collect()
+}
+
+fn sounds(base: &raw::Controller) -> Vec<raw::Controller> {
+    each(base, &moments(base), |c, value| c.sound = value)
+}
+
+fn openings(base: &raw::Controller) -> Vec<raw::Controller> {
+    each(base, &moments(base), |c, value| c.opening = value)
+}
+
+fn overruns(base: &raw::Controller) -> Vec<raw::Controller> {
+    each(base, &moments(base), |c, value| c.overrun = value)
+}
+
+fn stops(base: &raw::Controller) -> Vec<raw::Controller> {
+    each(base, &moments(base), |c, value| c.stop = value)
+}
+
+fn closings(base: &raw::Controller) -> Vec<raw::Controller> {
+    each(base, &CLOSINGS, |c, value| c.closings = value)
+}
+
+fn settled(base: &raw::Controller) -> Vec<raw::Controller> {
+    each(base, &BYTES, |c, value| c.settled = value)
+}
+
+/// Every band byte with every three bits, kept and not.
+fn previous(base: &raw::Controller) -> Vec<raw::Controller> {
+    let mut values = Vec::new();
+    for band in BYTES {
+        for bits in 0..8 {
+            let verdict = verdict(bits, band);
+            values.extend([true, false].map(|kept| raw::Previous { kept, verdict }));
+        }
+    }
+    each(base, &values, |c, value| c.previous = value)
+}
+
+fn all_faults(base: &raw::Controller) -> Vec<raw::Controller> {
+    let sets: Vec<u64> = (0..32).collect();
+    each(base, &sets, |c, value| c.faults = faults(value))
+}
+
+/// The contactor, with the timers as they are, and the ventilation.
+fn switches(base: &raw::Controller) -> Vec<raw::Controller> {
+    let values = [(false, false), (false, true), (true, false), (true, true)];
+    each(base, &values, |c, (closed, ventilation)| {
+        c.closed = closed;
+        c.settings.ventilation = ventilation;
+    })
+}
+
+/// Changes of one field.
+type Change = (&'static str, fn(&raw::Controller) -> Vec<raw::Controller>);
+
+/// Those that refusal 1 looks at, and those that it does not.
+const RANGED: [Change; 10] = [
+    ("wave", waves),
+    ("limit", limits),
+    ("rated", rated),
+    ("pause", pauses),
+    ("last time", lasts),
+    ("sound sample", sounds),
+    ("opening", openings),
+    ("over-run", overruns),
+    ("stop", stops),
+    ("closings", closings),
+];
+const FREE: [Change; 4] = [
+    ("settled", settled),
+    ("previous", previous),
+    ("faults", all_faults),
+    ("switches", switches),
+];
+
+/// What must have occurred on wild controllers: also every set of causes.
+const WANTED: [(&str, &[&str]); 7] = [
+    ("refusal", &REFUSALS),
+    ("opened by", CAUSES.split_at(1).1),
+    ("latched", &FAULTS),
+    ("closing", &["in C", "in D"]),
+    ("state", &STATES),
+    (
+        "closes but for",
+        &[
+            "open",
+            "wave",
+            "this sample",
+            "previous sample",
+            "one band",
+            "pause",
+        ],
+    ),
+    (
+        "order",
+        &["3 over 2", "3 over 1", "2 over 1", "1 over 4 to 8"],
+    ),
+];
+
+/// Calls of each kind at one time.
+fn calls_at(time: u64) -> [Call; 17] {
+    let sample = |high, low| Call::Sample(time, halves(high, low));
+    [
+        Call::Tick(time),
+        Call::Clear(time),
+        Call::Limit(time, 32_000),
+        Call::Limit(time, 0),
+        Call::Limit(time, 80_001),
+        Call::Measure(time, 0),
+        Call::Measure(time, 200_000),
+        Call::Measure(time, 200_001),
+        Call::Fault(time, 4),
+        Call::Fault(time, 6),
+        sample(6_000, -12_000),
+        sample(6_000, 0),
+        sample(9_000, -12_000),
+        sample(3_000, -12_000),
+        sample(7_200, -12_000),
+        sample(15_001, -12_000),
+        Call::Sample(time, Vec::new()),
+    ]
+}
+
+/// Every call on every changed copy of every base, each for itself.
+fn single_calls(change: &Change, bases: &[raw::Controller]) -> Tally {
+    let mut tally = Tally::default();
+    for lent in bases.iter().flat_map(change.1) {
+        let last = lent.last;
+        let later = [0, 1, 81].map(|step| last.saturating_add(step));
+        let odd = [last.wrapping_sub(1), LARGEST, LARGEST + 1, u64::MAX];
+        for call in later.into_iter().chain(odd).flat_map(calls_at) {
+            let mut trial = Trial::from(lent);
+            check(&mut trial, call, change.0);
+            tally.add(&trial.tally);
+        }
+    }
+    tally
+}
+
+#[test]
+fn each_field_that_refusal_1_looks_at() {
+    let bases = bases();
+    for change in &RANGED {
+        let tally = single_calls(change, &bases);
+        let refused = tally.of("refusal", "1");
+        println!(
+            "{}: refused 1 {refused} times, accepted {}",
+            change.0,
+            tally.of("refusal", "0")
+        );
+        assert!(refused > 0, "{}: never refused by 1", change.0);
+        assert!(tally.of("refusal", "0") > 0, "{}: never accepted", change.0);
+    }
+}
+
+#[test]
+fn each_field_that_it_does_not() {
+    let bases = bases();
+    for change in &FREE {
+        let tally = single_calls(change, &bases);
+        let accepted = tally.of("refusal", "0");
+        println!("{}: accepted {accepted} times", change.0);
+        assert!(accepted > 0, "{}: never accepted", change.0);
+        assert_eq!(tally.of("refusal", "1"), 0, "{}: refused by 1", change.0);
+    }
+}
+
+#[test]
+fn short_lists_on_wild_controllers() {
+    let mut tally = Tally::default();
+    let mut dice = Dice::new(1);
+    for seed in 0..60_000 {
+        let start = wild(&mut dice);
+        let written = write_from(start, "wild", seed, &mut tally, |author| {
+            let count = author.dice.between(1, 4);
+            author.anything(count)
+        });
+        if let Err(report) = written {
+            panic!("the two sides differ\n{report}");
+        }
+    }
+    println!("{}", tally.table());
+    let never = tally.missing(&WANTED);
+    assert!(never.is_empty(), "never occurred: {}", never.join("; "));
+}

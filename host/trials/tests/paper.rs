@@ -1,0 +1,122 @@
+//! The paper's bench figures and field faults, as lists of text, on both sides.
+
+use chuldariin_model::{Band, State};
+use chuldariin_trials::call::Call;
+use chuldariin_trials::meaning::blank;
+use chuldariin_trials::text::parse;
+use chuldariin_trials::trial::Trial;
+use chuldariin_trials::windows::halves;
+
+/// B2 at 20, closed at 40.
+const CHARGING: &str = "\
+begin 0 32000 0 no
+limit 0 32000
+sample 10 9000 9000
+sample 20 9000 9000
+sample 30 6000 -12000
+sample 40 6000 -12000
+";
+
+/// The state after a list, on which both sides agree call by call.
+fn run(calls: Vec<Call>) -> State {
+    let mut trial = Trial::from(blank());
+    for call in calls {
+        if trial.run(call).is_err() {
+            panic!("the two sides differ\n{}", trial.report("paper"));
+        }
+    }
+    trial.state()
+}
+
+fn list(text: &str) -> Vec<Call> {
+    parse(&format!("{CHARGING}{text}")).expect("a list of calls")
+}
+
+/// The state after charging and these calls.
+fn after(text: &str) -> State {
+    run(list(text))
+}
+
+/// Ready samples every 10 ms, both ends in.
+fn ready(from: u64, to: u64) -> impl Iterator<Item = Call> {
+    let times = (from..=to).step_by(10);
+    times.map(|time| Call::Sample(time, halves(6_000, -12_000)))
+}
+
+#[test]
+fn closes_at_40_and_starves_at_121() {
+    let state = after("");
+    assert_eq!((state.closed, state.closings, state.wave), (true, 1, 533));
+    assert!(after("sample 50 9000 -12000\n").closed);
+    assert!(after("sample 50 9000 -12000\ntick 120\n").closed);
+    assert!(!after("sample 50 9000 -12000\ntick 121\n").closed);
+}
+
+#[test]
+fn closes_again_after_the_pause() {
+    let mut calls = list("sample 50 9000 -12000\nsample 60 9000 -12000\n");
+    assert!(!run(calls.clone()).closed);
+    calls.extend(ready(70, 3_050));
+    assert!(!run(calls.clone()).closed);
+    calls.extend(ready(3_060, 3_060));
+    let state = run(calls);
+    assert_eq!((state.closed, state.closings), (true, 2));
+}
+
+#[test]
+fn a_stop_takes_3_s_and_does_not_start_afresh() {
+    let mut calls = list("");
+    calls.extend(ready(50, 5_000));
+    calls.push(Call::Limit(5_000, 0));
+    calls.extend(ready(5_010, 6_000));
+    calls.push(Call::Limit(6_000, 0));
+    calls.extend(ready(6_010, 7_990));
+    assert!(run(calls.clone()).closed);
+    calls.extend(ready(8_000, 8_000));
+    assert!(!run(calls).closed);
+}
+
+#[test]
+fn an_over_run_takes_5_s() {
+    assert_eq!(after("measure 40 35178\n").overrun, None);
+    let mut calls = list("measure 40 35179\n");
+    calls.extend(ready(50, 5_030));
+    let mut early = calls.clone();
+    early.push(Call::Tick(5_039));
+    assert!(!run(early).any_fault());
+    calls.push(Call::Tick(5_040));
+    let state = run(calls);
+    assert_eq!(state.faults, [false, true, false, false, false]);
+    assert_eq!((state.wave, state.closed), (0, false));
+}
+
+#[test]
+fn levels_between_bands_keep_the_contactor_closed() {
+    let state = after("sample 50 7200 -12000\nsample 60 7499 -12000\nsample 70 7001 -11000\n");
+    assert_eq!((state.closed, state.settled), (true, Some(Band::C)));
+    assert!(!after("sample 50 7500 -12000\nsample 60 1500 -12000\n").closed);
+}
+
+#[test]
+fn a_diode_sample_from_before_an_opening_does_not_count() {
+    let state = after("sample 50 6000 -10999\ntick 121\nsample 130 6000 -10999\n");
+    assert_eq!((state.closed, state.any_fault()), (false, false));
+    assert!(after("sample 50 6000 -10999\nsample 60 6000 -10999\n").faults[0]);
+}
+
+#[test]
+fn a_refused_call_does_not_move_the_clock() {
+    let state = after("limit 900 80001\nfault 900 6\nwindow 900\ntick 50\n");
+    assert_eq!((state.closed, state.last), (true, 50));
+}
+
+#[test]
+fn duties_just_above_51_a() {
+    for (limit, wave) in [(51_000, 850), (52_000, 850), (52_749, 850), (52_750, 851)] {
+        let text = format!(
+            "begin 0 80000 0 no\nlimit 0 {limit}\nsample 10 9000 9000\nsample 20 9000 9000\n"
+        );
+        let state = run(parse(&text).expect("a list of calls"));
+        assert_eq!((state.settled, state.wave), (Some(Band::B), wave));
+    }
+}
