@@ -20,7 +20,12 @@ fn show(time: u64, what: &str, answer: Result<Reply, Refusal>) {
 }
 
 fn main() -> Result<(), Refusal> {
-    let begin = Begin { time: Millis(0), rated: Milliamps(32_000), pause: Millis(0), ventilation: false };
+    let begin = Begin {
+        time: Millis(0),
+        rated: Milliamps(32_000),
+        pause: Millis(0),
+        ventilation: false,
+    };
     let (mut post, reply) = Post::begin(begin)?;
     show(0, "begin, rated 32 A", Ok(reply));
     show(0, "limit 32 A", post.limit(Millis(0), Milliamps(32_000)));

@@ -74,24 +74,39 @@ impl Post {
     /// assert_eq!(Post::begin(begin).unwrap_err(), Refusal::Settings);
     /// ```
     pub fn begin(begin: Begin) -> Result<(Post, Reply), Refusal> {
-        let mut post = Post { controller: raw::Controller::ZEROED };
+        let mut post = Post {
+            controller: raw::Controller::ZEROED,
+        };
         let reply = post.begin_again(begin)?;
         Ok((post, reply))
     }
 
     /// Begins afresh with other settings. Refused, the controller is as it was.
     pub fn begin_again(&mut self, begin: Begin) -> Result<Reply, Refusal> {
-        let Begin { time, rated, pause, ventilation } = begin;
+        let Begin {
+            time,
+            rated,
+            pause,
+            ventilation,
+        } = begin;
         // SAFETY: a `&mut` is what the archive asks of the pointer.
-        let reply = unsafe { raw::chuldariin_begin(&mut self.controller, time.0, rated.0, pause.0, ventilation) };
+        let reply = unsafe {
+            raw::chuldariin_begin(&mut self.controller, time.0, rated.0, pause.0, ventilation)
+        };
         reply::accepted(reply)
     }
 
     /// A window of 256 to 1,024 readings of the pilot line, in millivolts.
     pub fn sample(&mut self, time: Millis, readings: &[i32]) -> Result<Reply, Refusal> {
         // SAFETY: as above, and a slice's pointer and length are what the archive asks of a window.
-        let reply =
-            unsafe { raw::chuldariin_sample(&mut self.controller, time.0, readings.as_ptr(), readings.len()) };
+        let reply = unsafe {
+            raw::chuldariin_sample(
+                &mut self.controller,
+                time.0,
+                readings.as_ptr(),
+                readings.len(),
+            )
+        };
         reply::accepted(reply)
     }
 
@@ -111,7 +126,9 @@ impl Post {
     /// the controller's own, and refused.
     pub fn fault(&mut self, time: Millis, fault: Fault) -> Result<Reply, Refusal> {
         // SAFETY: as in begin_again.
-        reply::accepted(unsafe { raw::chuldariin_fault(&mut self.controller, time.0, fault as u32) })
+        reply::accepted(unsafe {
+            raw::chuldariin_fault(&mut self.controller, time.0, fault as u32)
+        })
     }
 
     /// Drops every latched fault.

@@ -93,20 +93,41 @@ pub struct Controller {
 impl Controller {
     /// Cleared memory, which nothing has begun in: every call but begin is refused.
     pub const ZEROED: Controller = {
-        let never = Moment { set: false, time: 0 };
+        let never = Moment {
+            set: false,
+            time: 0,
+        };
         Controller {
-            settings: Settings { rated: 0, pause: 0, ventilation: false },
+            settings: Settings {
+                rated: 0,
+                pause: 0,
+                ventilation: false,
+            },
             limit: 0,
             wave: 0,
             closed: false,
             settled: 0,
-            faults: Faults { diode: false, overcurrent: false, residual: false, welded: false, temperature: false },
+            faults: Faults {
+                diode: false,
+                overcurrent: false,
+                residual: false,
+                welded: false,
+                temperature: false,
+            },
             last: 0,
             sound: never,
             opening: never,
             overrun: never,
             stop: never,
-            previous: Previous { kept: false, verdict: Verdict { band: 0, sound: false, proven: false, diodebad: false } },
+            previous: Previous {
+                kept: false,
+                verdict: Verdict {
+                    band: 0,
+                    sound: false,
+                    proven: false,
+                    diodebad: false,
+                },
+            },
             closings: 0,
         }
     };

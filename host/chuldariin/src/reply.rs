@@ -81,7 +81,10 @@ pub enum Reading {
 pub(crate) fn accepted(reply: raw::Reply) -> Result<Reply, Refusal> {
     told(reply.refusal)?;
     Ok(Reply {
-        state: State { letter: char::from(reply.letter), digit: reply.digit },
+        state: State {
+            letter: char::from(reply.letter),
+            digit: reply.digit,
+        },
         wave: reply.wave,
         closed: reply.closed,
         fault: Fault::of(reply.fault),

@@ -1,7 +1,12 @@
 //! The wrapper over the archive: each refusal by name, a lent controller that a refused call leaves alone, and a whole cycle.
-use chuldariin::{Begin, Fault, Milliamps, Millis, Post, Refusal};
+use chuldariin::{Begin, Fault, Milliamps, Millis, Post, Refusal, Reply};
 
-const BEGIN: Begin = Begin { time: Millis(0), rated: Milliamps(32_000), pause: Millis(0), ventilation: false };
+const BEGIN: Begin = Begin {
+    time: Millis(0),
+    rated: Milliamps(32_000),
+    pause: Millis(0),
+    ventilation: false,
+};
 
 fn window(high: i32, low: i32) -> [i32; 256] {
     let mut readings = [high; 256];
@@ -11,27 +16,46 @@ fn window(high: i32, low: i32) -> [i32; 256] {
 
 fn charging() -> Post {
     let (mut post, _) = Post::begin(BEGIN).expect("the settings are in range");
-    post.limit(Millis(0), Milliamps(32_000)).expect("a limit in range");
-    for (time, high, low) in [(10, 9_000, 9_000), (20, 9_000, 9_000), (30, 6_000, -12_000), (40, 6_000, -12_000)] {
-        post.sample(Millis(time), &window(high, low)).expect("a window in range");
+    post.limit(Millis(0), Milliamps(32_000))
+        .expect("a limit in range");
+    for (time, high, low) in [
+        (10, 9_000, 9_000),
+        (20, 9_000, 9_000),
+        (30, 6_000, -12_000),
+        (40, 6_000, -12_000),
+    ] {
+        post.sample(Millis(time), &window(high, low))
+            .expect("a window in range");
     }
     assert!(post.controller().closed);
     post
 }
 
+/// A call that is refused.
+type Call<'a> = &'a dyn Fn(&mut Post) -> Result<Reply, Refusal>;
+
 #[test]
 fn every_refusal_leaves_the_controller_alone() {
     let post = charging();
     let uneven: Vec<i32> = (0..256).map(|i| -15_000 + (i % 100) * 300).collect();
-    let refused: [(Refusal, &dyn Fn(&mut Post) -> Result<_, Refusal>); 9] = [
-        (Refusal::Settings, &|p| p.begin_again(Begin { pause: Millis(999), ..BEGIN })),
+    let refused: [(Refusal, Call); 9] = [
+        (Refusal::Settings, &|p| {
+            p.begin_again(Begin {
+                pause: Millis(999),
+                ..BEGIN
+            })
+        }),
         (Refusal::Earlier, &|p| p.tick(Millis(39))),
         (Refusal::Late, &|p| p.clear(Millis(1_000_000_000_001))),
         (Refusal::Length, &|p| p.sample(Millis(50), &[0; 255])),
         (Refusal::Reading, &|p| p.sample(Millis(50), &[-15_001; 256])),
         (Refusal::Unsupported, &|p| p.sample(Millis(50), &uneven)),
-        (Refusal::Current, &|p| p.limit(Millis(50), Milliamps(80_001))),
-        (Refusal::Current, &|p| p.measure(Millis(50), Milliamps(200_001))),
+        (Refusal::Current, &|p| {
+            p.limit(Millis(50), Milliamps(80_001))
+        }),
+        (Refusal::Current, &|p| {
+            p.measure(Millis(50), Milliamps(200_001))
+        }),
         (Refusal::Kind, &|p| p.fault(Millis(50), Fault::Overcurrent)),
     ];
     for (refusal, call) in refused {
@@ -53,11 +77,19 @@ fn an_altered_controller_is_refused() {
 #[test]
 fn a_fault_opens_and_clear_begins_again_from_u() {
     let mut post = charging();
-    let reply = post.fault(Millis(50), Fault::Residual).expect("a fault that the host may tell");
-    assert_eq!((reply.state.to_string().as_str(), reply.wave, reply.closed), ("F", 0, false));
+    let reply = post
+        .fault(Millis(50), Fault::Residual)
+        .expect("a fault that the host may tell");
+    assert_eq!(
+        (reply.state.to_string().as_str(), reply.wave, reply.closed),
+        ("F", 0, false)
+    );
     assert_eq!(reply.fault, Some(Fault::Residual));
     let reply = post.clear(Millis(60)).expect("clear");
-    assert_eq!((reply.state.to_string().as_str(), reply.wave, reply.fault), ("U", 1_000, None));
+    assert_eq!(
+        (reply.state.to_string().as_str(), reply.wave, reply.fault),
+        ("U", 1_000, None)
+    );
 }
 
 #[test]
@@ -65,7 +97,9 @@ fn each_number_has_its_refusal_and_each_refusal_its_advice() {
     for number in 1..=10 {
         let refusal = Refusal::of(number).expect("ten refusals");
         assert_eq!(refusal.number(), number);
-        assert!(refusal.to_string().starts_with(&format!("refused {number}: ")));
+        assert!(refusal
+            .to_string()
+            .starts_with(&format!("refused {number}: ")));
     }
     assert_eq!((Refusal::of(0), Refusal::of(11)), (None, None));
 }
