@@ -1,5 +1,5 @@
--- A run of the exported calls: the host keeps one controller and lends it to an accepted begin and then to each call. What it holds when
--- a call returns is what it holds when the next one is made, so nobody else writes it.
+-- A run of the exported calls: an accepted begin, and then the calls, all on the host's controller. What it holds when one of them returns is
+-- what it holds when the next one is made, so nobody else writes it.
 use mathlib.Core.Path.{_≡_}
 use mathlib.Core.List.{List, [], _∷_}
 use Prim.Native.Nat.{ℕ}

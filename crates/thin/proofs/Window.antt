@@ -1,6 +1,6 @@
 -- A thin call with a time and a window: a shared slice of readings.
--- Assumes nothing.
-use mathlib.Core.Path.{_≡_, refl, ap}
+-- Assumes `Given`, and that the call by value meets its contract.
+use mathlib.Core.Path.{refl, ap}
 use Prim.Native.Nat.{ℕ, _<_, _^_}
 use mathlib.Core.List.{List, [], _∷_}
 use lib.IntN.{ℤ}
