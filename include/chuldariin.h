@@ -1,26 +1,39 @@
 /* Chuldariin: the control pilot controller of an AC charging post (IEC 61851-1 Annex A, Mode 3).
  *
- * The host keeps one struct chuldariin_controller and lends it to each call. Every call returns a
- * finished reply: accepted (refusal 0), or refused with a number from CHULDARIIN_REFUSED_... below,
+ * The host owns a struct chuldariin_controller, and every call gets its address. Every call returns
+ * a finished reply: accepted (refusal 0), or refused with a number from CHULDARIIN_REFUSED_... below,
  * and then the controller is as it was. Nothing is allocated, nothing is kept elsewhere, nothing
- * blocks; a call's time is bounded by the length of its window.
+ * blocks. A sample makes about a million comparisons at the most (1,024 readings, none supported);
+ * the other calls take some hundred instructions, a measure about 1,200.
  *
  *     struct chuldariin_controller post = {0};
  *     struct chuldariin_reply r = chuldariin_begin(&post, now_ms, 32000, 0, false);
- *     r = chuldariin_limit(&post, now_ms, 16000);
+ *     if (r.refusal != CHULDARIIN_ACCEPTED)
+ *         stop_and_report(r.refusal);             // a refused begin tells no wave and no contactor
+ *
  *     r = chuldariin_sample(&post, now_ms, readings, 256);
+ *     if (r.refusal != CHULDARIIN_ACCEPTED)
+ *         r = chuldariin_tick(&post, now_ms);     // a refused call judges nothing: tick at once
  *     drive_pilot(r.wave);
  *     drive_contactor(r.closed);
+ *
+ * Drive the wave and the contactor of every reply but a refused begin's. Beside refusals 2 to 8 they
+ * are what the controller holds. Refusal 1 means that something wrote into the controller: open the
+ * contactor, begin again, and look for it.
+ *
+ * Call at least every 20 ms. The rule of 80 ms without a sound sample is judged in accepted calls
+ * only: a host whose samples are refused has to tick, and a host whose ticks are refused too (its
+ * clock went back) has to open the contactor by itself.
  *
  * What the host owes. These hold of any C call, and no reply can tell that one was broken:
  *   - the pointers are not null and are aligned for what they point at;
  *   - the controller and the readings are initialised ({0} will do before begin), the bools in the
  *     controller are 0 or 1 and `ventilation` is true or false;
- *   - `readings` points at `count` readings, and no reading lies inside the controller;
- *   - one call at a time on one controller: a host with several threads or interrupts locks.
+ *   - `readings` points at `count` readings, and none of them lies inside the controller;
+ *   - while a call runs nothing else writes the readings (a converter's DMA, an interrupt), and
+ *     nothing else reads or writes the controller: a host with several threads or interrupts locks.
  * All else is answered: any times, numbers and readings, in any order, and a controller whose
- * fields were altered. Call at least every 20 ms: the rule of 80 ms without a sound sample is
- * judged when a call is made.
+ * fields were altered.
  *
  * Link with libpost.a, for x86-64 Linux (System V calling convention).
  */
@@ -40,16 +53,18 @@ extern "C" {
 #define CHULDARIIN_ALIGNOF(type) _Alignof(type)
 #endif
 
-/* Why a call is refused. Of several reasons the order is 3, 2, then the rest by number. */
+/* Why a call is refused. Of several reasons 3 goes first, then 2, then 1, and then upwards. */
 enum {
     /* The call was accepted. */
     CHULDARIIN_ACCEPTED = 0,
     /* begin: rated is not 6,000 to 80,000 mA, or pause is neither 0 nor 1,000 to 60,000 ms.
-     * Other calls: no begin was accepted for this controller, or something wrote into it: its wave,
-     * limit, rated or pause is out of range, a stored time is after the last accepted call, or
-     * closings are above 1,000,000,001. Begin again, and look for the stray write. */
+     * Other calls: the controller is cleared memory that nothing has begun in, or something wrote
+     * into it. Out of range is one of wave, limit, rated and pause, a stored time is after that of
+     * the last accepted call, or there are more than 1,000,000,001 closings. Open the contactor,
+     * begin again, and look for the stray write. */
     CHULDARIIN_REFUSED_SETTINGS = 1,
-    /* The time is before that of the last accepted call or begin. Use a clock that never goes back. */
+    /* The time is before that of begin, or of the last call that was accepted. Use a clock that never
+     * goes back; until it is mended nothing is judged. */
     CHULDARIIN_REFUSED_EARLIER = 2,
     /* The time is above 1,000,000,000,000 ms. Count from the start of the post, in milliseconds. */
     CHULDARIIN_REFUSED_LATE = 3,
@@ -81,9 +96,9 @@ enum {
 
 /* What a duty tells a van. */
 enum {
-    CHULDARIIN_NO_CHARGING = 0,
-    CHULDARIIN_DIGITAL_ONLY = 1,
-    CHULDARIIN_CURRENT = 2
+    CHULDARIIN_READS_NO_CHARGING = 0,
+    CHULDARIIN_READS_DIGITAL_ONLY = 1,
+    CHULDARIIN_READS_CURRENT = 2
 };
 
 /* ---- The controller. The host may read it; only the calls write it. ---- */
@@ -113,9 +128,9 @@ struct chuldariin_faults {
 /* What a sample was found to be. */
 struct chuldariin_verdict {
     uint8_t band;  /* of the high level: 'A' to 'E', 0 for none */
-    bool sound;    /* high between 1,500 and 7,500 mV and, under a driven wave, low in its band */
-    bool proven;   /* under a driven wave: a ready van with a sound diode */
-    bool diodebad; /* under a driven wave: B, C or D without a low half */
+    bool sound;    /* high above 1,500 and below 7,500 mV; under a driven wave, low in its band too */
+    bool proven;   /* under a driven wave: a ready van, and low in its band */
+    bool diodebad; /* under a driven wave: B, C or D, and low not in its band, -13,000 to -11,000 mV */
 };
 
 /* The previous sample. */
@@ -145,7 +160,7 @@ struct chuldariin_controller {
 struct chuldariin_reply {
     uint8_t refusal;   /* 0 if accepted, else CHULDARIIN_REFUSED_... */
     uint8_t letter;    /* the state: 'A' to 'E', 'U' unsettled, 'F' a fault is latched */
-    uint8_t digit;     /* 2 if the wave is driven, else 1; 0 for U, E and F */
+    uint8_t digit;     /* 2 under a square wave, 1 under a steady one; U, E and F have none: 0 */
     uint32_t wave;     /* 0 steady -12 V, 1000 steady +12 V, 100 to 960 a duty, tenths of a percent */
     bool closed;       /* the contactor command */
     uint8_t fault;     /* 0, or a latched fault */
@@ -153,14 +168,14 @@ struct chuldariin_reply {
 };
 
 /* What a van reads from a duty. */
-struct chuldariin_read {
+struct chuldariin_told_reading {
     uint8_t refusal;  /* 0, or 9 */
-    uint8_t kind;     /* CHULDARIIN_NO_CHARGING, _DIGITAL_ONLY or _CURRENT */
+    uint8_t kind;     /* CHULDARIIN_READS_... */
     uint32_t current; /* mA; 0 for the other kinds */
 };
 
 /* The greatest duty for an available current. */
-struct chuldariin_sent {
+struct chuldariin_told_duty {
     uint8_t refusal; /* 0, or 10 */
     uint32_t duty;   /* tenths of a percent; 0 if refused */
 };
@@ -187,13 +202,15 @@ CHULDARIIN_ASSERT(offsetof(struct chuldariin_reply, wave) == 4);
 CHULDARIIN_ASSERT(offsetof(struct chuldariin_reply, closed) == 8);
 CHULDARIIN_ASSERT(offsetof(struct chuldariin_reply, fault) == 9);
 CHULDARIIN_ASSERT(offsetof(struct chuldariin_reply, closings) == 12);
-CHULDARIIN_ASSERT(sizeof(struct chuldariin_read) == 8);
-CHULDARIIN_ASSERT(sizeof(struct chuldariin_sent) == 8);
+CHULDARIIN_ASSERT(sizeof(struct chuldariin_told_reading) == 8);
+CHULDARIIN_ASSERT(sizeof(struct chuldariin_told_duty) == 8);
 
-/* ---- The calls. Times are in milliseconds, 0 to 1,000,000,000,000, and never go back. ---- */
+/* ---- The calls. Times are in milliseconds, 0 to 1,000,000,000,000, and never go back but at begin. ---- */
 
-/* Starts afresh: nothing settled, wave 1000, contactor open, limit 0, no fault, closings 0.
- * rated: 6,000 to 80,000 mA. pause: 1,000 to 60,000 ms, or 0 for 3,000. Refused: 3, 1. */
+/* Starts afresh: nothing settled, wave 1000, contactor open, no fault, closings 0, and no pause to
+ * wait for. So it opens a closed contactor, and drops what was latched. The limit is 0: nothing
+ * charges before a limit call. rated: 6,000 to 80,000 mA. pause: 1,000 to 60,000 ms, or 0 for 3,000.
+ * Refused: 3, 1. */
 struct chuldariin_reply chuldariin_begin(struct chuldariin_controller *c, uint64_t time, uint32_t rated,
                                          uint64_t pause, bool ventilation);
 
@@ -220,10 +237,10 @@ struct chuldariin_reply chuldariin_tick(struct chuldariin_controller *c, uint64_
 /* ---- Without a controller. ---- */
 
 /* What a van reads from a duty in tenths of a percent. Refused: 9. */
-struct chuldariin_read chuldariin_reading(uint32_t duty);
+struct chuldariin_told_reading chuldariin_reading(uint32_t duty);
 
 /* The greatest duty, 100 to 960, that announces no more than the available current. Refused: 10. */
-struct chuldariin_sent chuldariin_duty(uint32_t current);
+struct chuldariin_told_duty chuldariin_duty(uint32_t current);
 
 #undef CHULDARIIN_ASSERT
 #undef CHULDARIIN_ALIGNOF

@@ -75,7 +75,7 @@ static void closes_again_after_the_pause(void) {
     EXPECT(says(r, 'C', 2, 533, true, 0, 2));
 }
 
-static void stops_within_three_seconds(void) {
+static void opens_after_three_seconds(void) {
     controller c = charging();
     uint64_t t = 50;
     for (; t < 5000; t += 10)
@@ -100,10 +100,12 @@ static void over_current_and_clear(void) {
     EXPECT(says(chuldariin_clear(&c, 5070), 'U', 0, 1000, false, 0, 1));
 }
 
-/* The call was refused with this number, and the controller and what the reply tells of it are as before. */
+/* The call was refused with this number, and the controller, which is settled under a square wave, and all that the reply tells of it
+ * are as before. */
 static void refused(reply r, int number, const controller *before, const controller *after) {
     EXPECT(r.refusal == number);
     EXPECT(same(before, after));
+    EXPECT(r.letter == before->settled && r.digit == 2 && r.fault == 0);
     EXPECT(r.wave == before->wave && r.closed == before->closed && r.closings == before->closings);
 }
 
@@ -126,9 +128,10 @@ static void each_refusal(void) {
     refused(chuldariin_measure(&c, 50, 200001), CHULDARIIN_REFUSED_CURRENT, &before, &c);
     refused(chuldariin_fault(&c, 50, 2), CHULDARIIN_REFUSED_KIND, &before, &c);
 
-    c.wave = 99;
+    c.wave = 961;
     const controller altered = c;
-    refused(chuldariin_clear(&c, 50), CHULDARIIN_REFUSED_SETTINGS, &altered, &c);
+    reply of_altered = chuldariin_clear(&c, 50);
+    EXPECT(of_altered.refusal == CHULDARIIN_REFUSED_SETTINGS && of_altered.wave == 961 && same(&altered, &c));
     c = before;
     reply r = chuldariin_begin(&c, 50, 5999, 0, false);
     EXPECT(r.refusal == CHULDARIIN_REFUSED_SETTINGS && r.letter == 0 && r.wave == 0 && r.closings == 0 && same(&before, &c));
@@ -143,18 +146,18 @@ static void before_any_begin(void) {
 }
 
 static void duties(void) {
-    struct chuldariin_read r = chuldariin_reading(533);
-    EXPECT(r.refusal == 0 && r.kind == CHULDARIIN_CURRENT && r.current == 31980);
-    EXPECT(chuldariin_reading(79).kind == CHULDARIIN_NO_CHARGING);
+    struct chuldariin_told_reading r = chuldariin_reading(533);
+    EXPECT(r.refusal == 0 && r.kind == CHULDARIIN_READS_CURRENT && r.current == 31980);
+    EXPECT(chuldariin_reading(79).kind == CHULDARIIN_READS_NO_CHARGING);
     EXPECT(chuldariin_reading(80).current == 6000 && chuldariin_reading(970).current == 80000);
-    EXPECT(chuldariin_reading(50).kind == CHULDARIIN_DIGITAL_ONLY);
+    EXPECT(chuldariin_reading(50).kind == CHULDARIIN_READS_DIGITAL_ONLY);
     EXPECT(chuldariin_duty(32000).duty == 533 && chuldariin_duty(52749).duty == 850 && chuldariin_duty(52750).duty == 851);
 }
 
 int main(void) {
     silent_for_81();
     closes_again_after_the_pause();
-    stops_within_three_seconds();
+    opens_after_three_seconds();
     over_current_and_clear();
     each_refusal();
     before_any_begin();

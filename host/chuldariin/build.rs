@@ -10,16 +10,30 @@ fn main() {
         Some(folder) => PathBuf::from(folder),
         None => here.join("../../target/staticlib"),
     };
-    let archive = folder.join("libpost.a");
+    let target = (
+        env::var("CARGO_CFG_TARGET_ARCH"),
+        env::var("CARGO_CFG_TARGET_OS"),
+    );
     println!("cargo:rerun-if-env-changed=CHULDARIIN_LIB");
-    println!("cargo:rerun-if-changed={}", archive.display());
-    if !archive.is_file() {
-        eprintln!(
-            "{} is missing: run `rt staticlib post` at the top of the repository, or set CHULDARIIN_LIB to the folder of libpost.a",
-            archive.display()
-        );
-        std::process::exit(1);
+    let archive = match folder.join("libpost.a").canonicalize() {
+        Ok(archive) => archive,
+        Err(_) => fail(&format!(
+            "{} is missing: run `rt staticlib post` at the top of the repository, or set CHULDARIIN_LIB to the absolute path of the folder that has libpost.a",
+            folder.join("libpost.a").display()
+        )),
+    };
+    if target != (Ok("x86_64".to_string()), Ok("linux".to_string())) {
+        fail("libpost.a is for x86-64 Linux alone");
     }
-    println!("cargo:rustc-link-search=native={}", folder.display());
+    println!("cargo:rerun-if-changed={}", archive.display());
+    println!(
+        "cargo:rustc-link-search=native={}",
+        archive.parent().expect("a file has a folder").display()
+    );
     println!("cargo:rustc-link-lib=static=post");
+}
+
+fn fail(why: &str) -> ! {
+    eprintln!("{why}");
+    std::process::exit(1);
 }

@@ -1,8 +1,11 @@
 //! The proved control pilot controller of an AC charging post, from Rust.
 //!
-//! [`Post`] keeps the controller and lends it to each call of the archive. Every call is answered:
+//! A [`Post`] owns its controller, and every call of the archive works on it. Every call is answered:
 //! with a [`Reply`], or with the [`Refusal`] that says why it was refused and what to do, and then
 //! the controller is as it was.
+//!
+//! A refused call judges nothing, also not the 80 ms without a sound sample: after a refused sample
+//! call [`Post::tick`], at least every 20 ms. Where ticks are refused too, open the contactor.
 //!
 //! ```
 //! use chuldariin::{Begin, Milliamps, Millis, Post};
@@ -148,8 +151,8 @@ impl Post {
         &self.controller
     }
 
-    /// A post with this controller, whatever it holds: one that no list of calls leads to is refused
-    /// at the next call.
+    /// A post with this controller, whatever it holds. The next call refuses one whose wave, limit,
+    /// rated current, pause, stored times or closings are out of range; any other is taken as it is.
     pub fn with(controller: raw::Controller) -> Post {
         Post { controller }
     }

@@ -153,7 +153,7 @@ pub struct Reply {
     pub closings: u32,
 }
 
-/// What a van reads from a duty.
+/// What a van reads from a duty: `struct chuldariin_told_reading`.
 #[repr(C)]
 #[derive(Clone, Copy, Debug, PartialEq, Eq)]
 pub struct Reading {
@@ -165,7 +165,7 @@ pub struct Reading {
     pub current: u32,
 }
 
-/// The greatest duty for an available current.
+/// The greatest duty for an available current: `struct chuldariin_told_duty`.
 #[repr(C)]
 #[derive(Clone, Copy, Debug, PartialEq, Eq)]
 pub struct Duty {

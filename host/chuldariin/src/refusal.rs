@@ -92,6 +92,11 @@ pub(crate) fn told(number: u8) -> Result<(), Refusal> {
     }
     match Refusal::of(number) {
         Some(refusal) => Err(refusal),
-        None => panic!("the archive told refusal {number}, which there is none of: is libpost.a of another version?"),
+        None => unknown("refusal", number),
     }
+}
+
+/// A number that the archive's contracts leave no room for.
+pub(crate) fn unknown(what: &str, number: u8) -> ! {
+    panic!("the archive told {what} {number}, which there is none of: is libpost.a of another version?")
 }

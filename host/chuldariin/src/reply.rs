@@ -1,5 +1,5 @@
 //! What a call tells.
-use crate::refusal::{told, Refusal};
+use crate::refusal::{told, unknown, Refusal};
 use crate::{raw, Milliamps};
 use std::fmt;
 
@@ -22,7 +22,7 @@ pub struct Reply {
 pub struct State {
     /// `A` to `E`, `U` unsettled, `F` a fault is latched.
     pub letter: char,
-    /// 2 if the wave is driven, else 1; 0 for U, E and F, which have none.
+    /// 2 under a square wave, 1 under a steady one; 0 where there is none: U, E and F.
     pub digit: u8,
 }
 
@@ -48,12 +48,13 @@ pub enum Fault {
 impl Fault {
     fn of(number: u8) -> Option<Fault> {
         match number {
+            0 => None,
             1 => Some(Fault::Diode),
             2 => Some(Fault::Overcurrent),
             3 => Some(Fault::Residual),
             4 => Some(Fault::Welded),
             5 => Some(Fault::Temperature),
-            _ => None,
+            _ => unknown("fault", number),
         }
     }
 }
@@ -95,8 +96,9 @@ pub(crate) fn accepted(reply: raw::Reply) -> Result<Reply, Refusal> {
 pub(crate) fn read(reading: raw::Reading) -> Result<Reading, Refusal> {
     told(reading.refusal)?;
     Ok(match reading.kind {
+        0 => Reading::NoCharging,
         1 => Reading::DigitalOnly,
         2 => Reading::Current(Milliamps(reading.current)),
-        _ => Reading::NoCharging,
+        kind => unknown("kind", kind),
     })
 }

@@ -1,4 +1,4 @@
-//! The wrapper over the archive: each refusal by name, a lent controller that a refused call leaves alone, and a whole cycle.
+//! The wrapper over the archive: the refusals of the calls by name, and a controller that they leave alone; a fault and its end.
 use chuldariin::{Begin, Fault, Milliamps, Millis, Post, Refusal, Reply};
 
 const BEGIN: Begin = Begin {

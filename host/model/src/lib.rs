@@ -1,7 +1,7 @@
 //! A plain model of the control pilot controller of a charging post.
 //!
-//! It was made from the scope paper (`01-scope.md`) alone, to be held against
-//! another controller call by call. It is slow and obvious on purpose.
+//! It was made from document 01 alone, the paper that states the rules, to be
+//! held against another controller call by call. It is slow and obvious on purpose.
 //!
 //! | File | What it holds |
 //! |---|---|
@@ -28,7 +28,7 @@
 //!    accepted time is in order.
 //! 4. A last accepted time above the largest time is no refusal 1 of itself:
 //!    every call on it is refused 3 or 2.
-//! 5. Closings of exactly 1,000,000,001 are accepted, and may grow by one more.
+//! 5. 1,000,000,001 closings are in range, and the call may still add one.
 //! 6. Refusal 1 looks at nothing else: an odd verdict of the previous sample,
 //!    a driven wave under a latched fault and the like are taken as they are.
 //! 7. Begin knows only 3 and 1, in that order.
@@ -39,8 +39,8 @@
 //! 9. A sample's band is that of its high level, whatever its low level is.
 //!
 //! Steps
-//! 10. A measure with the contactor open or the wave not driven does nothing
-//!     in step 1. The wave is the one commanded before the call.
+//! 10. Step 1 ignores a measure while the contactor is open or the wave is
+//!     steady. The wave is the one commanded before the call.
 //! 11. Fault 2 asks only for the age of the over-run, in a call of any kind and
 //!     with the contactor open as well.
 //! 12. Faults 1 and 2 latch whenever their condition holds, also if latched
