@@ -30,6 +30,9 @@ fn main() -> Result<(), String> {
 }
 
 fn told(reply: &Reply) -> String {
+    if reply.letter == 0 {
+        return format!("refusal {}, alone", reply.refusal);
+    }
     let faults = (1..=5).filter(|&fault| reply.faults[fault - 1]);
     let faults: Vec<String> = faults.map(|fault| fault.to_string()).collect();
     format!(

@@ -72,6 +72,12 @@ impl Author {
         self.state().last.saturating_add(step)
     }
 
+    /// A time at most so many ms after the last call.
+    pub fn within(&mut self, most: u64) -> u64 {
+        let step = self.dice.between(0, most);
+        self.state().last.saturating_add(step)
+    }
+
     /// A time at which a list may start.
     pub fn start(&mut self) -> u64 {
         match self.dice.between(0, 15) {
@@ -84,10 +90,12 @@ impl Author {
 
     /// A begin that is accepted if its time is.
     pub fn good_begin(&mut self, time: u64) -> Call {
+        let any_rated = self.dice.between(6_000, 80_000) as u32;
+        let any_pause = self.dice.between(1_000, 60_000);
         Call::Begin(Begin {
             time,
-            rated: self.dice.pick(&GOOD_RATED),
-            pause: self.dice.pick(&GOOD_PAUSES),
+            rated: self.dice.often(&GOOD_RATED, any_rated),
+            pause: self.dice.often(&GOOD_PAUSES, any_pause),
             ventilation: self.dice.one_in(2),
         })
     }
@@ -148,7 +156,9 @@ impl Author {
     /// A limit that lets a wave be driven.
     pub fn good_limit(&mut self) -> Played {
         let time = self.soon();
-        self.limit(time, &GOOD_LIMITS)
+        let any_limit = self.dice.between(6_000, 80_000) as u32;
+        let limit = self.dice.often(&GOOD_LIMITS, any_limit);
+        self.say(Call::Limit(time, limit))
     }
 
     /// One of the faults that the board finds.

@@ -41,6 +41,15 @@ impl Dice {
         of[self.place(of.len())]
     }
 
+    /// Mostly one of these, now and then another.
+    pub fn often<T: Copy>(&mut self, of: &[T], other: T) -> T {
+        if self.one_in(4) {
+            other
+        } else {
+            self.pick(of)
+        }
+    }
+
     pub fn shuffle<T>(&mut self, items: &mut [T]) {
         for last in (1..items.len()).rev() {
             let other = self.place(last + 1);

@@ -79,3 +79,18 @@ pub fn times(state: &State) -> Vec<u64> {
     times.retain(|&time| time >= state.last);
     times
 }
+
+/// Times so late that the low 32 bits of an age say nothing of it.
+pub fn far_times(state: &State) -> Vec<u64> {
+    let stored = [
+        Some(state.last),
+        state.sound,
+        state.opening,
+        state.overrun,
+        state.stop,
+    ];
+    let stored = stored.into_iter().flatten();
+    let mut times: Vec<u64> = stored.map(|time| time.saturating_add(1 << 32)).collect();
+    times.retain(|&time| time >= state.last);
+    times
+}

@@ -2,7 +2,15 @@
 //!
 //! Each call goes to both sides. The whole reply and the whole controller must
 //! agree, after every call, refused or not. The first call where they do not
-//! ends its list; the list is shrunk and printed in a form that can be replayed.
+//! ends its list; the list is shrunk and printed in a form that can be replayed:
+//!
+//! ```text
+//! cargo test --release -- --nocapture                  all trials, with the tables of what occurred
+//! cargo run --release --example replay < list.txt      one list, call by call
+//! ```
+//!
+//! A build that is not a release build takes minutes, as the model counts the
+//! supporters of every reading.
 //!
 //! | File | What it holds |
 //! |---|---|

@@ -3,13 +3,14 @@
 use crate::author::Author;
 use crate::call::Call;
 use crate::edges::{
-    times, BAD_LOWS, BAD_PAUSES, BAD_RATED, CURRENTS, GOOD_LOWS, HIGHS, LARGEST, LOWS,
+    far_times, times, BAD_LOWS, BAD_PAUSES, BAD_RATED, CURRENTS, GOOD_LOWS, HIGHS, LARGEST, LOWS,
 };
+use crate::trial::Played;
 use crate::windows::{halves, odd, scattered};
 use chuldariin_model::{Band, Begin};
 
 impl Author {
-    /// A call that is refused whatever the controller is, or nearly so.
+    /// A call that every controller refuses.
     pub fn refused(&mut self) -> Call {
         let time = self.edge_time();
         match self.dice.between(0, 9) {
@@ -79,11 +80,9 @@ impl Author {
             0 => LARGEST,
             1..=6 => self.dice.pick(&[LARGEST + 1, u64::MAX]),
             7..=14 => self.dice.pick(&[0, last / 2, last.wrapping_sub(1)]),
-            15..=127 => last.saturating_add(self.dice.between(0, 20)),
-            _ => {
-                let times = times(&self.state());
-                self.dice.pick(&times)
-            }
+            15..=17 => self.dice.pick(&far_times(&self.state())),
+            18..=127 => self.within(20),
+            _ => self.dice.pick(&times(&self.state())),
         }
     }
 
@@ -134,7 +133,7 @@ impl Author {
     }
 
     /// So many calls of any kind, also begin.
-    pub fn anything(&mut self, count: u64) -> crate::trial::Played {
+    pub fn anything(&mut self, count: u64) -> Played {
         for _ in 0..count {
             let time = self.edge_time();
             let call = match self.dice.between(0, 63) {

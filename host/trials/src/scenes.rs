@@ -2,7 +2,7 @@
 
 use crate::author::Author;
 use crate::call::Call;
-use crate::edges::{BAD_LOWS, CURRENTS, GOOD_LIMITS, GOOD_LOWS, LOW_LIMITS};
+use crate::edges::{CURRENTS, GOOD_LIMITS, GOOD_LOWS, LOW_LIMITS};
 use crate::trial::Played;
 use chuldariin_model::{reading, Band, Reading};
 
@@ -107,10 +107,7 @@ pub fn unsound(author: &mut Author) -> Played {
 
 /// Now and then a call that is no sample.
 fn between(author: &mut Author) -> Played {
-    let time = author
-        .state()
-        .last
-        .saturating_add(author.dice.between(0, 3));
+    let time = author.within(3);
     match author.dice.between(0, 9) {
         0 => author.say(Call::Tick(time)),
         1 => author.limit(time, &GOOD_LIMITS),
@@ -152,18 +149,16 @@ pub fn starve(author: &mut Author) -> Played {
     let Some(sound) = author.state().sound else {
         return Ok(());
     };
-    let ages: &[u64] = if author.dice.one_in(3) {
-        &[81]
-    } else {
-        &[79, 80, 81]
-    };
-    for age in ages {
+    if author.dice.one_in(3) {
+        return finish(author, sound + 81);
+    }
+    for age in [79, 80, 81] {
         finish(author, sound + age)?;
     }
     Ok(())
 }
 
-/// A sample that makes a pair of the next one.
+/// A sample with which the next one may make a pair.
 fn prime(author: &mut Author) -> Played {
     let time = author.soon();
     match author.dice.between(0, 4) {
@@ -301,10 +296,7 @@ pub fn late_d(author: &mut Author) -> Played {
 pub fn flicker(author: &mut Author) -> Played {
     close(author)?;
     for _ in 0..author.dice.between(5, 30) {
-        let time = author
-            .state()
-            .last
-            .saturating_add(author.dice.between(0, 2));
+        let time = author.within(2);
         match author.dice.between(0, 7) {
             0 => author.limit(time, &LOW_LIMITS)?,
             1 => author.limit(time, &CURRENTS)?,
@@ -325,10 +317,8 @@ pub fn no_diode(author: &mut Author) -> Played {
         close(author)?;
     }
     for _ in 0..author.dice.between(1, 4) {
-        let (time, band) = (
-            author.soon(),
-            author.dice.pick(&[Band::B, Band::C, Band::D]),
-        );
+        let time = author.soon();
+        let band = author.dice.pick(&[Band::B, Band::C, Band::D]);
         author.no_diode_at(time, band)?;
         match (author.dice.between(0, 3), author.state().sound) {
             (0, Some(sound)) => finish(author, sound + 81)?,
@@ -342,7 +332,7 @@ pub fn no_diode(author: &mut Author) -> Played {
 /// Low levels at the ends of the low band.
 pub fn low_ends(author: &mut Author) -> Played {
     close(author)?;
-    let lows = [-13_001, -13_000, -11_000, -10_999, BAD_LOWS[2]];
+    let lows = [-13_001, -13_000, -11_000, -10_999];
     for _ in 0..author.dice.between(2, 8) {
         let (time, band) = (author.soon(), author.ready_band());
         let (high, low) = (author.level(band), author.dice.pick(&lows));

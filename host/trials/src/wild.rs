@@ -45,10 +45,11 @@ pub fn wild(dice: &mut Dice) -> raw::Controller {
     c.settled = wild_byte(dice);
     c.faults = wild_faults(dice);
     c.last = last;
-    c.sound = wild_moment(dice, last);
-    c.opening = wild_moment(dice, last);
-    c.overrun = wild_moment(dice, last);
-    c.stop = wild_moment(dice, last);
+    let young = dice.one_in(2);
+    c.sound = wild_moment(dice, last, if young { &AGES[..5] } else { &AGES });
+    c.opening = wild_moment(dice, last, &AGES);
+    c.overrun = wild_moment(dice, last, &AGES);
+    c.stop = wild_moment(dice, last, &AGES);
     c.previous = wild_previous(dice);
     c.closings = seldom(dice, &CLOSINGS, &[0, 1, 1_000_000_000, 1_000_000_001]);
     c
@@ -117,10 +118,10 @@ pub fn faults(set: u64) -> raw::Faults {
     }
 }
 
-/// Set or not, some age before the last call, seldom after it.
-fn wild_moment(dice: &mut Dice, last: u64) -> raw::Moment {
+/// Set or not, of one of these ages at the last call, seldom after it.
+fn wild_moment(dice: &mut Dice, last: u64, ages: &[u64]) -> raw::Moment {
     let set = !dice.one_in(3);
-    let before = last.saturating_sub(dice.pick(&AGES));
+    let before = last.saturating_sub(dice.pick(ages));
     let after = [last.saturating_add(1), u64::MAX];
     let time = match dice.between(0, 99) {
         0 => dice.pick(&after),

@@ -31,8 +31,8 @@ sample 70030 3000 -12000
 sample 70040 3000 -12000
 ";
 
-/// What may follow, for a controller with more in it.
-const TAILS: [(&str, &str); 8] = [
+/// The lists, in two parts, that lead to the controllers which are altered.
+const LISTS: [(&str, &str); 8] = [
     ("begin 70000 32000 0 no\n", ""),
     (CHARGING, ""),
     (CHARGING_D, ""),
@@ -45,7 +45,7 @@ const TAILS: [(&str, &str); 8] = [
 
 /// The controllers that are altered.
 fn bases() -> Vec<raw::Controller> {
-    let lists = TAILS.map(|(head, tail)| format!("{head}{tail}"));
+    let lists = LISTS.map(|(head, tail)| format!("{head}{tail}"));
     let mut bases = Vec::new();
     for list in lists {
         let mut trial = Trial::from(blank());
@@ -79,25 +79,9 @@ fn each<T: Copy>(
 }
 
 fn waves(base: &raw::Controller) -> Vec<raw::Controller> {
-    let values = [
-        0,
-        1,
-        50,
-        99,
-        100,
-        101,
-        850,
-        851,
-        959,
-        960,
-        961,
-        970,
-        999,
-        1_000,
-        1_001,
-        u32::MAX,
-    ];
-    each(base, &values, |c, value| c.wave = value)
+    let in_range = [0, 100, 101, 850, 851, 959, 960, 1_000];
+    let not = [1, 50, 99, 961, 970, 999, 1_001, u32::MAX];
+    each(base, &[in_range, not].concat(), |c, value| c.wave = value)
 }
 
 fn limits(base: &raw::Controller) -> Vec<raw::Controller> {
@@ -265,7 +249,7 @@ fn single_calls(change: &Change, bases: &[raw::Controller]) -> Tally {
     let mut tally = Tally::default();
     for lent in bases.iter().flat_map(change.1) {
         let last = lent.last;
-        let later = [0, 1, 81].map(|step| last.saturating_add(step));
+        let later = [0, 1, 81, 1 << 32].map(|step| last.saturating_add(step));
         let odd = [last.wrapping_sub(1), LARGEST, LARGEST + 1, u64::MAX];
         for call in later.into_iter().chain(odd).flat_map(calls_at) {
             let mut trial = Trial::from(lent);
