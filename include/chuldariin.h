@@ -4,7 +4,7 @@
  * a finished reply: accepted (refusal 0), or refused with a number from CHULDARIIN_REFUSED_... below,
  * and then the controller is as it was. Nothing is allocated, nothing is kept elsewhere, nothing
  * blocks. A sample makes about a million comparisons at the most (1,024 readings, none supported);
- * the other calls take some hundred instructions, a measure about 1,200.
+ * the other calls take about 700 instructions, a measure up to 1,200.
  *
  *     struct chuldariin_controller post = {0};
  *     struct chuldariin_reply r = chuldariin_begin(&post, now_ms, 32000, 0, false);
@@ -14,16 +14,13 @@
  *     r = chuldariin_sample(&post, now_ms, readings, 256);
  *     if (r.refusal != CHULDARIIN_ACCEPTED)
  *         r = chuldariin_tick(&post, now_ms);     // a refused call judges nothing: tick at once
- *     drive_pilot(r.wave);
- *     drive_contactor(r.closed);
+ *     bool judged = r.refusal == CHULDARIIN_ACCEPTED;
+ *     drive_pilot(judged ? r.wave : 0);           // 0: steady -12 V, the post is not available
+ *     drive_contactor(judged && r.closed);        // closed by an accepted reply only
  *
- * Drive the wave and the contactor of every reply but a refused begin's. Beside refusals 2 to 8 they
- * are what the controller holds. Refusal 1 means that something wrote into the controller: open the
- * contactor, begin again, and look for it.
- *
- * Call at least every 20 ms. The rule of 80 ms without a sound sample is judged in accepted calls
- * only: a host whose samples are refused has to tick, and a host whose ticks are refused too (its
- * clock went back) has to open the contactor by itself.
+ * Call at least every 20 ms. The rule of 80 ms without a sound sample, like every other, is judged in
+ * accepted calls only. So a host whose sample was refused ticks, and a host whose tick is refused too
+ * opens the contactor by itself: its clock is wrong (2, 3), or something wrote into the controller (1).
  *
  * What the host owes. These hold of any C call, and no reply can tell that one was broken:
  *   - the pointers are not null and are aligned for what they point at;
@@ -66,7 +63,8 @@ enum {
     /* The time is before that of begin, or of the last call that was accepted. Use a clock that never
      * goes back; until it is mended nothing is judged. */
     CHULDARIIN_REFUSED_EARLIER = 2,
-    /* The time is above 1,000,000,000,000 ms. Count from the start of the post, in milliseconds. */
+    /* The time is above 1,000,000,000,000 ms. Count from the start of the post, in milliseconds; until
+     * it is mended nothing is judged. */
     CHULDARIIN_REFUSED_LATE = 3,
     /* The window has fewer than 256 or more than 1,024 readings. */
     CHULDARIIN_REFUSED_LENGTH = 4,
@@ -118,11 +116,11 @@ struct chuldariin_moment {
 
 /* The latched faults, in the order of their numbers. */
 struct chuldariin_faults {
-    bool diode;
-    bool overcurrent;
-    bool residual;
-    bool welded;
-    bool temperature;
+    bool diode;       /* 1 */
+    bool overcurrent; /* 2 */
+    bool residual;    /* 3 */
+    bool welded;      /* 4 */
+    bool temperature; /* 5 */
 };
 
 /* What a sample was found to be. */
@@ -140,12 +138,12 @@ struct chuldariin_previous {
 };
 
 struct chuldariin_controller {
-    struct chuldariin_settings settings;
+    struct chuldariin_settings settings; /* what begin was given, with pause 0 as 3,000 */
     uint32_t limit;                      /* the depot's limit, mA */
     uint32_t wave;                       /* the wave command, tenths of a percent */
     bool closed;                         /* the contactor command */
     uint8_t settled;                     /* the settled state, 'A' to 'E'; any other number is U */
-    struct chuldariin_faults faults;
+    struct chuldariin_faults faults;     /* the latched faults */
     uint64_t last;                       /* time of the last accepted call, or of begin, ms */
     struct chuldariin_moment sound;      /* the last sound sample */
     struct chuldariin_moment opening;    /* the last opening */

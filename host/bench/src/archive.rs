@@ -17,8 +17,7 @@ pub struct Archive {
 // In every call below the controller is lent whole and for that call only, and the window is a slice.
 impl Archive {
     pub fn begin(b: &Begin) -> (Archive, Reply) {
-        // All zeros is a controller: no field has a forbidden zero.
-        let mut controller: Controller = unsafe { std::mem::zeroed() };
+        let mut controller = Controller::ZEROED;
         let reply = unsafe {
             raw::chuldariin_begin(&mut controller, b.time, b.rated, b.pause, b.ventilation)
         };

@@ -2,11 +2,11 @@
 
 use crate::archive::Archive;
 use crate::drive::{charging, idle, Pair, DRIVEN_TO};
-use crate::generator::Generator;
 use crate::table::{ns, spread, verdict, Table};
 use crate::timing::{contest, median, ratio, Contestant, Effort, Times};
 use chuldariin::raw::Reply;
 use chuldariin_model::Event;
+use chuldariin_trials::dice::Dice;
 use std::hint::black_box;
 
 /// Target of tick and limit: archive against the model.
@@ -76,9 +76,9 @@ pub fn measures() -> Vec<u32> {
 }
 
 fn changing(least: i32, greatest: i32) -> Vec<u32> {
-    let mut generator = Generator::new(32_000);
+    let mut dice = Dice::new(32_000);
     (0..64)
-        .map(|_| generator.between(least, greatest) as u32)
+        .map(|_| dice.level(least, greatest) as u32)
         .collect()
 }
 

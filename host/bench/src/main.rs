@@ -6,7 +6,6 @@ mod check;
 mod count;
 mod cycle;
 mod drive;
-mod generator;
 mod growth;
 mod options;
 mod readings;
@@ -31,6 +30,10 @@ const QUICK: Effort = Effort {
 };
 
 fn main() -> ExitCode {
+    if std::env::args().any(|argument| argument == "--help") {
+        println!("{USAGE}");
+        return ExitCode::SUCCESS;
+    }
     let Some(options) = Options::read(std::env::args().skip(1)) else {
         eprintln!("{USAGE}");
         return ExitCode::FAILURE;

@@ -1,6 +1,6 @@
-//! The windows that are timed. The generator is seeded, so they are the same in every run.
+//! The windows that are timed. The dice are seeded, so they are the same in every run.
 
-use crate::generator::Generator;
+use chuldariin_trials::dice::Dice;
 
 const SEED: u64 = 61_851;
 
@@ -13,11 +13,11 @@ const GROUP: usize = 7;
 
 /// A square wave of 16 readings high and 16 low, with noise of so many mV to either side.
 pub fn square(high: i32, low: i32, noise: i32, length: usize) -> Vec<i32> {
-    let mut generator = Generator::new(SEED + length as u64);
+    let mut dice = Dice::new(SEED + length as u64);
     (0..length)
         .map(|i| {
             let level = if i / 16 % 2 == 0 { high } else { low };
-            level + generator.between(-noise, noise)
+            level + dice.level(-noise, noise)
         })
         .collect()
 }
@@ -29,10 +29,8 @@ pub fn charging(noise: i32, length: usize) -> Vec<i32> {
 
 /// Noise all over the range.
 pub fn wide(length: usize) -> Vec<i32> {
-    let mut generator = Generator::new(SEED + length as u64);
-    (0..length)
-        .map(|_| generator.between(LEAST, GREATEST))
-        .collect()
+    let mut dice = Dice::new(SEED + length as u64);
+    (0..length).map(|_| dice.level(LEAST, GREATEST)).collect()
 }
 
 /// Sixteen supported readings, eight high and eight low. The rest is in groups of seven.
@@ -45,7 +43,7 @@ pub fn few(length: usize) -> Vec<i32> {
             .expect("a window has readings");
         readings.push(nearest);
     }
-    Generator::new(SEED).shuffle(&mut readings);
+    shuffle(&mut readings);
     readings
 }
 
@@ -100,7 +98,7 @@ pub fn unsupported(order: Order, length: usize) -> Vec<i32> {
         Order::Descending => readings.reverse(),
         Order::InTurn => readings = in_turn(&readings),
         Order::Zigzag => readings = zigzag(&readings),
-        Order::Shuffled => Generator::new(SEED).shuffle(&mut readings),
+        Order::Shuffled => shuffle(&mut readings),
     }
     readings
 }
@@ -123,4 +121,12 @@ fn zigzag(sorted: &[i32]) -> Vec<i32> {
             }
         })
         .collect()
+}
+
+fn shuffle(readings: &mut [i32]) {
+    let mut dice = Dice::new(SEED);
+    for last in (1..readings.len()).rev() {
+        let other = dice.place(last + 1);
+        readings.swap(last, other);
+    }
 }

@@ -156,6 +156,7 @@ fn cases(worst: Order) -> Vec<Case> {
     let mut cases = Vec::new();
     for length in [256, 1_024] {
         let windows = [
+            ("exact", CLEAN_TARGET, readings::charging(0, length)),
             ("clean", CLEAN_TARGET, readings::charging(20, length)),
             ("noisy", WORST_TARGET, readings::charging(150, length)),
             ("wide", WORST_TARGET, readings::wide(length)),
@@ -173,7 +174,7 @@ fn cases(worst: Order) -> Vec<Case> {
 
 const HEAD: &str = "\
 1. Window search
-   clean: +6 V and -12 V, 20 mV of noise; noisy: 150 mV; wide: noise over the whole range;
+   exact: +6 V and -12 V; clean: with 20 mV of noise; noisy: 150 mV; wide: noise over the whole range;
    few: 16 readings supported; worst: none supported, in the slowest order of those below.
    search: the archive's sample less its tick.
    rust: the same algorithm, at the fastest of four places in memory; slow place: at the slowest;

@@ -4,8 +4,27 @@
 //! with a [`Reply`], or with the [`Refusal`] that says why it was refused and what to do, and then
 //! the controller is as it was.
 //!
-//! A refused call judges nothing, also not the 80 ms without a sound sample: after a refused sample
-//! call [`Post::tick`], at least every 20 ms. Where ticks are refused too, open the contactor.
+//! A refused call judges nothing, also not the 80 ms without a sound sample. So a host ticks where a
+//! sample is refused, and opens the contactor where that is refused too, at least every 20 ms:
+//!
+//! ```
+//! # use chuldariin::{Begin, Milliamps, Millis, Post};
+//! # fn drive(_wave: u32, _closed: bool) {}
+//! fn turn(post: &mut Post, now: Millis, readings: &[i32]) {
+//!     let judged = post.sample(now, readings).or_else(|_| post.tick(now));
+//!     match judged {
+//!         Ok(reply) => drive(reply.wave, reply.closed),
+//!         Err(_) => drive(0, false),
+//!     }
+//! }
+//! # let begin = Begin { time: Millis(0), rated: Milliamps(6_000), pause: Millis(0), ventilation: true };
+//! # let (mut post, _) = Post::begin(begin)?;
+//! # turn(&mut post, Millis(20), &[9_000; 255]);
+//! # assert_eq!(post.controller().last, 20);
+//! # Ok::<(), chuldariin::Refusal>(())
+//! ```
+//!
+//! A first charge:
 //!
 //! ```
 //! use chuldariin::{Begin, Milliamps, Millis, Post};

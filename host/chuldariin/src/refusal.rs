@@ -8,7 +8,7 @@ use std::fmt;
 /// ```
 /// use chuldariin::Refusal;
 /// assert_eq!(Refusal::Length.number(), 4);
-/// assert!(Refusal::Length.to_string().contains("256 to 1,024"));
+/// assert_eq!(Refusal::Length.to_string(), "refused 4: hand over 256 to 1,024 readings, and tick for this one");
 /// ```
 #[derive(Clone, Copy, Debug, PartialEq, Eq, Hash)]
 pub enum Refusal {
@@ -61,18 +61,26 @@ impl Refusal {
     fn advice(self) -> &'static str {
         match self {
             Refusal::Settings => {
-                "begin: rated is not 6,000 to 80,000 mA, or pause neither 0 nor 1,000 to 60,000 ms. Another call: \
-                 nothing has begun, or something wrote into the controller; begin again and look for the stray write"
+                "begin: give rated 6,000 to 80,000 mA, and pause 0 or 1,000 to 60,000 ms. Another call: nothing has begun, \
+                 or something else wrote into the controller; open the contactor, begin again and look for it"
             }
-            Refusal::Earlier => "the time is before that of the last accepted call: use a clock that never goes back",
-            Refusal::Late => "the time is above 1,000,000,000,000 ms: count milliseconds from the start of the post",
-            Refusal::Length => "the window does not have 256 to 1,024 readings",
-            Refusal::Reading => "a reading is not -15,000 to 15,000 mV: check the scale and the converter",
-            Refusal::Unsupported => "no reading has 8 readings within 200 mV: the pilot line is too noisy",
-            Refusal::Current => "a limit is above 80,000 mA, or a measured current above 200,000 mA",
-            Refusal::Kind => "the host may tell residual current (3), welded contact (4) and over-temperature (5) only",
-            Refusal::Duty => "the duty is above 1000 tenths of a percent",
-            Refusal::TooLow => "the current is below 6,000 mA, which no duty announces",
+            Refusal::Earlier => {
+                "the time is before that of the last accepted call: use a clock that never goes back, and open the contactor \
+                 until it is mended"
+            }
+            Refusal::Late => {
+                "the time is above 1,000,000,000,000 ms: count milliseconds from the start of the post, and open the contactor \
+                 until that is mended"
+            }
+            Refusal::Length => "hand over 256 to 1,024 readings, and tick for this one",
+            Refusal::Reading => "a reading is not -15,000 to 15,000 mV: check the scale and the converter, and tick for this one",
+            Refusal::Unsupported => {
+                "no reading has 8 readings, itself counted, within 200 mV: look for noise on the pilot line, and tick for this one"
+            }
+            Refusal::Current => "give a limit up to 80,000 mA, or a measured current up to 200,000 mA: is the unit milliamps?",
+            Refusal::Kind => "tell residual current (3), welded contact (4) or over-temperature (5): the controller finds 1 and 2 itself",
+            Refusal::Duty => "ask for a duty up to 1000: the unit is a tenth of a percent",
+            Refusal::TooLow => "ask for 6,000 mA or more: no duty announces less",
         }
     }
 }

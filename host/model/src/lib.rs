@@ -1,4 +1,4 @@
-//! A plain model of the control pilot controller of a charging post.
+//! What the controller of a charging post should do, as plain Rust.
 //!
 //! It was made from document 01 alone, the paper that states the rules, to be
 //! held against another controller call by call. It is slow and obvious on purpose.
@@ -73,5 +73,5 @@ pub use duty::{driven, duty_for, reading, Reading};
 pub use pilot::{band, verdict, Band, Verdict};
 pub use state::{Event, State};
 pub use steps::Conditions;
-pub use table::{refusal_of_begin, refusal_of_call};
+pub use table::refusal_of_call;
 pub use window::levels;

@@ -5,8 +5,8 @@
 //!
 //! It ends in failure at the first call on which the two sides differ.
 
+use chuldariin::raw::Controller;
 use chuldariin_model::Reply;
-use chuldariin_trials::meaning::blank;
 use chuldariin_trials::pair::Pair;
 use chuldariin_trials::text::parse;
 use chuldariin_trials::trial::both_sides;
@@ -16,7 +16,7 @@ fn main() -> Result<(), String> {
     let mut text = String::new();
     let read = std::io::stdin().read_to_string(&mut text);
     read.map_err(|error| error.to_string())?;
-    let mut pair = Pair::of(blank());
+    let mut pair = Pair::of(Controller::ZEROED);
     for call in parse(&text)? {
         match pair.step(&call) {
             Ok(seen) => println!("{call}\n# {}", told(&seen.told.reply)),

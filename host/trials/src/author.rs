@@ -3,11 +3,11 @@
 use crate::call::Call;
 use crate::dice::Dice;
 use crate::edges::{ends, BAD_LOWS, GOOD_LIMITS, GOOD_LOWS, GOOD_PAUSES, GOOD_RATED, LARGEST};
-use crate::meaning::blank;
 use crate::tally::Tally;
 use crate::trial::{Played, Trial};
 use crate::windows::halves;
 use chuldariin::raw;
+use chuldariin::raw::Controller;
 use chuldariin_model::{driven, Band, Begin, State};
 
 /// A part of a list.
@@ -26,7 +26,7 @@ pub fn write(
     tally: &mut Tally,
     list: impl Fn(&mut Author) -> Played,
 ) -> Result<(), String> {
-    write_from(blank(), name, seed, tally, list)
+    write_from(Controller::ZEROED, name, seed, tally, list)
 }
 
 /// Writes a list from any controller.

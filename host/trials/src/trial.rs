@@ -1,12 +1,12 @@
 //! A list of calls as it grows, and the report of a difference.
 
 use crate::call::Call;
-use crate::meaning::blank;
 use crate::pair::{Difference, Pair};
 use crate::shrink::shrink;
 use crate::tally::Tally;
 use crate::text::print;
 use chuldariin::raw;
+use chuldariin::raw::Controller;
 use chuldariin_model::State;
 
 /// Both sides agreed, or where they did not.
@@ -58,7 +58,7 @@ impl Trial {
             first_difference(self.start, calls).map(|(place, _)| place)
         });
         let mut text = format!("# {name}: {} calls, shrunk from {run}\n", calls.len());
-        if self.start != blank() {
+        if self.start != Controller::ZEROED {
             text.push_str(&format!("# lent at first: {:?}\n", self.start));
         }
         text.push_str(&print(&calls));

@@ -2,8 +2,8 @@
 
 use crate::dice::Dice;
 use crate::edges::{BAD_PAUSES, BAD_RATED, LARGEST};
-use crate::meaning::blank;
 use chuldariin::raw;
+use chuldariin::raw::Controller;
 
 /// Settled states and bands: letters, and bytes that are none.
 pub const BYTES: [u8; 14] = [
@@ -29,7 +29,7 @@ pub const CLOSINGS: [u32; 7] = [
 /// A controller of any content, so that most calls on it are accepted.
 pub fn wild(dice: &mut Dice) -> raw::Controller {
     let last = wild_last(dice);
-    let mut c = blank();
+    let mut c = Controller::ZEROED;
     c.settings = wild_settings(dice);
     c.limit = seldom(
         dice,

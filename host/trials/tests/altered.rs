@@ -1,11 +1,11 @@
 //! Controllers that the host has altered, each field at and beyond its range.
 
 use chuldariin::raw;
+use chuldariin::raw::Controller;
 use chuldariin_trials::author::write_from;
 use chuldariin_trials::call::Call;
 use chuldariin_trials::dice::Dice;
 use chuldariin_trials::edges::LARGEST;
-use chuldariin_trials::meaning::blank;
 use chuldariin_trials::tally::{Tally, CAUSES, FAULTS, REFUSALS, STATES};
 use chuldariin_trials::text::parse;
 use chuldariin_trials::trial::Trial;
@@ -48,7 +48,7 @@ fn bases() -> Vec<raw::Controller> {
     let lists = LISTS.map(|(head, tail)| format!("{head}{tail}"));
     let mut bases = Vec::new();
     for list in lists {
-        let mut trial = Trial::from(blank());
+        let mut trial = Trial::from(Controller::ZEROED);
         for call in parse(&list).expect("a list of calls") {
             check(&mut trial, call, "before any change");
         }

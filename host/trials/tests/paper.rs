@@ -1,8 +1,8 @@
 //! The paper's bench figures and field faults, as lists of text, on both sides.
 
+use chuldariin::raw::Controller;
 use chuldariin_model::{Band, State};
 use chuldariin_trials::call::Call;
-use chuldariin_trials::meaning::blank;
 use chuldariin_trials::text::parse;
 use chuldariin_trials::trial::Trial;
 use chuldariin_trials::windows::halves;
@@ -19,7 +19,7 @@ sample 40 6000 -12000
 
 /// The state after a list, on which both sides agree call by call.
 fn run(calls: Vec<Call>) -> State {
-    let mut trial = Trial::from(blank());
+    let mut trial = Trial::from(Controller::ZEROED);
     for call in calls {
         if trial.run(call).is_err() {
             panic!("the two sides differ\n{}", trial.report("paper"));
