@@ -1,7 +1,8 @@
 //! What the controller of a charging post should do, as plain Rust.
 //!
-//! It was made from document 01 alone, the paper that states the rules, to be
-//! held against another controller call by call. It is slow and obvious on purpose.
+//! It was made from document 01, the paper that states the rules, without sight
+//! of the controller that it is held against, call by call. Its interface and
+//! readings 1, 3 and 5 below were given. It is slow and obvious on purpose.
 //!
 //! | File | What it holds |
 //! |---|---|
