@@ -3,6 +3,7 @@
 use crate::state::{Event, State};
 use crate::steps::{run, Conditions};
 use crate::table::{check, refusal_of_begin};
+use crate::window::{levels, Weighed};
 
 /// What begin's pause 0 means, ms.
 const USUAL_PAUSE: u64 = 3_000;
@@ -112,7 +113,17 @@ impl State {
     /// One call on this controller, which may be any controller at all.
     /// A refused call hands back an equal state.
     pub fn call(&self, time: u64, event: &Event) -> (State, Told) {
-        match check(self, time, event) {
+        self.call_weighed(levels, time, event)
+    }
+
+    /// The same, with another way to find the levels of a window: the model's own takes its time.
+    pub fn call_weighed(
+        &self,
+        weigh: impl FnOnce(&[i32]) -> Weighed,
+        time: u64,
+        event: &Event,
+    ) -> (State, Told) {
+        match check(self, weigh, time, event) {
             Err(refusal) => (*self, self.refused(refusal)),
             Ok(levels) => {
                 let run = run(self, time, event, levels);

@@ -75,4 +75,4 @@ pub use pilot::{band, verdict, Band, Verdict};
 pub use state::{Event, State};
 pub use steps::Conditions;
 pub use table::refusal_of_call;
-pub use window::levels;
+pub use window::{levels, Weighed};

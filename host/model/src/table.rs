@@ -2,7 +2,7 @@
 
 use crate::duty::driven;
 use crate::state::{Event, State};
-use crate::window::levels;
+use crate::window::{levels, Weighed};
 
 /// The largest time, ms.
 const LARGEST_TIME: u64 = 1_000_000_000_000;
@@ -25,7 +25,7 @@ pub fn refusal_of_begin(time: u64, rated: u32, pause: u64) -> u8 {
 
 /// Number the table has for any other call, 0 if it has none.
 pub fn refusal_of_call(state: &State, time: u64, event: &Event) -> u8 {
-    match check(state, time, event) {
+    match check(state, levels, time, event) {
         Ok(_) => 0,
         Err(refusal) => refusal,
     }
@@ -33,7 +33,12 @@ pub fn refusal_of_call(state: &State, time: u64, event: &Event) -> u8 {
 
 /// Goes through the table in its order: 3, 2, 1, then 4 to 8.
 /// An accepted sample gets its high and low level.
-pub(crate) fn check(state: &State, time: u64, event: &Event) -> Result<Option<(i32, i32)>, u8> {
+pub(crate) fn check(
+    state: &State,
+    weigh: impl FnOnce(&[i32]) -> Weighed,
+    time: u64,
+    event: &Event,
+) -> Result<Option<(i32, i32)>, u8> {
     if time > LARGEST_TIME {
         return Err(3);
     }
@@ -44,7 +49,7 @@ pub(crate) fn check(state: &State, time: u64, event: &Event) -> Result<Option<(i
         return Err(1);
     }
     match *event {
-        Event::Sample(window) => levels(window).map(Some),
+        Event::Sample(window) => weigh(window).map(Some),
         Event::Limit(limit) if limit > LARGEST_LIMIT => Err(7),
         Event::Measure(current) if current > LARGEST_MEASURE => Err(7),
         Event::Fault(kind) if !(3..=5).contains(&kind) => Err(8),

@@ -14,7 +14,10 @@ const NEAR: i32 = 200;
 const ENOUGH: usize = 8;
 
 /// High and low level of a window, or refusal 4, 5 or 6.
-pub fn levels(window: &[i32]) -> Result<(i32, i32), u8> {
+pub type Weighed = Result<(i32, i32), u8>;
+
+/// The levels of a window.
+pub fn levels(window: &[i32]) -> Weighed {
     if window.len() < SHORTEST || window.len() > LONGEST {
         return Err(4);
     }

@@ -6,9 +6,9 @@
 //! It ends in failure at the first call on which the two sides differ.
 
 use chuldariin::raw::Controller;
+use chuldariin_log::text::calls;
 use chuldariin_model::Reply;
 use chuldariin_trials::pair::Pair;
-use chuldariin_trials::text::parse;
 use chuldariin_trials::trial::both_sides;
 use std::io::Read;
 
@@ -17,7 +17,8 @@ fn main() -> Result<(), String> {
     let read = std::io::stdin().read_to_string(&mut text);
     read.map_err(|error| error.to_string())?;
     let mut pair = Pair::of(Controller::ZEROED);
-    for call in parse(&text)? {
+    let calls = calls(&text).map_err(|wrong| wrong[0].to_string())?;
+    for call in calls {
         match pair.step(&call) {
             Ok(seen) => println!("{call}\n# {}", told(&seen.told.reply)),
             Err(difference) => {

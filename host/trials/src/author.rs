@@ -1,13 +1,12 @@
 //! Makes up calls by what the controller is doing.
 
-use crate::call::Call;
 use crate::dice::Dice;
 use crate::edges::{ends, BAD_LOWS, GOOD_LIMITS, GOOD_LOWS, GOOD_PAUSES, GOOD_RATED, LARGEST};
 use crate::tally::Tally;
 use crate::trial::{Played, Trial};
-use crate::windows::halves;
 use chuldariin::raw;
 use chuldariin::raw::Controller;
+use chuldariin_log::{Call, Window};
 use chuldariin_model::{driven, Band, Begin, State};
 
 /// A part of a list.
@@ -122,7 +121,7 @@ impl Author {
 
     /// A sample of these two levels.
     pub fn sample(&mut self, time: u64, high: i32, low: i32) -> Played {
-        self.say(Call::Sample(time, halves(high, low)))
+        self.say(Call::Sample(time, Window::Halves(high, low)))
     }
 
     /// A sample as a van in this band makes it under the present wave.

@@ -15,9 +15,6 @@
 //! | File | What it holds |
 //! |---|---|
 //! | `dice` | a seeded pseudo-random generator |
-//! | `call` | a call with its arguments |
-//! | `text` | lists of calls as text, and back |
-//! | `meaning` | what the archive's controller means |
 //! | `pair` | one call on both sides |
 //! | `trial` | a list of calls as it grows, and the report of a difference |
 //! | `shrink` | a shorter list that differs too |
@@ -28,22 +25,21 @@
 //! | `noise` | calls to be refused, and calls of any kind |
 //! | `scenes` | what happens at a charging post |
 //! | `odds` | scenes of windows, faults and clocks |
+//! | `styles` | the lists that the scenes make, each with its seed |
 //! | `wild` | controllers that a host has altered |
 //!
 //! Units: levels in mV, currents in mA, times in ms, duty in tenths of a percent.
 
 pub mod author;
-pub mod call;
 pub mod dice;
 pub mod edges;
-pub mod meaning;
 pub mod noise;
 pub mod odds;
 pub mod pair;
 pub mod scenes;
 pub mod shrink;
+pub mod styles;
 pub mod tally;
-pub mod text;
 pub mod trial;
 pub mod wild;
 pub mod windows;

@@ -1,12 +1,12 @@
 //! Calls to be refused, and calls of any kind.
 
 use crate::author::Author;
-use crate::call::Call;
 use crate::edges::{
     far_times, times, BAD_LOWS, BAD_PAUSES, BAD_RATED, CURRENTS, GOOD_LOWS, HIGHS, LARGEST, LOWS,
 };
 use crate::trial::Played;
-use crate::windows::{halves, odd, scattered};
+use crate::windows::{odd, scattered};
+use chuldariin_log::{Call, Window};
 use chuldariin_model::{Band, Begin};
 
 impl Author {
@@ -21,7 +21,7 @@ impl Author {
             4 => Call::Limit(time, self.dice.pick(&[80_001, 200_000, u32::MAX])),
             5 => Call::Measure(time, self.dice.pick(&[200_001, 2_000_000, u32::MAX])),
             6 => Call::Fault(time, self.dice.pick(&[0, 1, 2, 6, 7, 255, 259, u32::MAX])),
-            _ => Call::Sample(time, self.bad_window()),
+            _ => Call::Sample(time, self.bad_window().into()),
         }
     }
 
@@ -108,19 +108,19 @@ impl Author {
     }
 
     /// Mostly clean windows; also odd and bad ones.
-    pub fn any_window(&mut self) -> Vec<i32> {
+    pub fn any_window(&mut self) -> Window {
         match self.dice.between(0, 31) {
-            0 => self.bad_window(),
-            1 => odd(&mut self.dice),
-            2..=4 => halves(self.dice.pick(&LOWS), self.dice.pick(&HIGHS)),
-            5..=13 => halves(self.dice.pick(&HIGHS), self.dice.pick(&LOWS)),
+            0 => self.bad_window().into(),
+            1 => odd(&mut self.dice).into(),
+            2..=4 => Window::Halves(self.dice.pick(&LOWS), self.dice.pick(&HIGHS)),
+            5..=13 => Window::Halves(self.dice.pick(&HIGHS), self.dice.pick(&LOWS)),
             14..=17 => {
                 let high = self.any_level();
-                halves(high, self.dice.pick(&BAD_LOWS).min(high))
+                Window::Halves(high, self.dice.pick(&BAD_LOWS).min(high))
             }
             _ => {
                 let high = self.any_level();
-                halves(high, self.dice.pick(&GOOD_LOWS))
+                Window::Halves(high, self.dice.pick(&GOOD_LOWS))
             }
         }
     }

@@ -1,18 +1,18 @@
 //! Scenes of windows, faults and clocks.
 
 use crate::author::Author;
-use crate::call::Call;
 use crate::edges::LARGEST;
 use crate::scenes::close;
 use crate::trial::Played;
 use crate::windows::odd;
+use chuldariin_log::Call;
 use chuldariin_model::Band;
 
 /// Odd windows in any state.
 pub fn odd_windows(author: &mut Author) -> Played {
     for _ in 0..author.dice.between(4, 16) {
         let (time, readings) = (author.soon(), odd(&mut author.dice));
-        author.say(Call::Sample(time, readings))?;
+        author.say(Call::Sample(time, readings.into()))?;
     }
     Ok(())
 }
@@ -22,7 +22,7 @@ pub fn odd_among_good(author: &mut Author) -> Played {
     close(author)?;
     for _ in 0..author.dice.between(2, 8) {
         let (time, readings) = (author.soon(), odd(&mut author.dice));
-        author.say(Call::Sample(time, readings))?;
+        author.say(Call::Sample(time, readings.into()))?;
         author.van(Band::C)?;
     }
     Ok(())

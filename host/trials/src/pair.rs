@@ -1,8 +1,9 @@
 //! One call on both sides.
 
-use crate::call::Call;
-use crate::meaning::meaning;
 use chuldariin::raw;
+use chuldariin_log::ask::ask;
+use chuldariin_log::meaning::meaning;
+use chuldariin_log::{Call, Room};
 use chuldariin_model::{begin, Begin, Conditions, Reply, State, Told};
 
 /// One controller, as the archive keeps it and as the model does.
@@ -41,7 +42,7 @@ impl Pair {
     /// Puts the call to both sides and compares all that they say and keep.
     pub fn step<'a>(&mut self, call: &'a Call) -> Result<Seen<'a>, Box<Difference>> {
         let before = *self;
-        let (said, only_read) = ask(&mut self.lent, call);
+        let (said, only_read) = archive(&mut self.lent, call);
         let (state, told) = answer(&before.state, call);
         self.state = state;
         let mut what = unlike(&said, &told.reply);
@@ -113,36 +114,22 @@ fn unlike_kept(archive: &State, model: &State) -> Vec<&'static str> {
 }
 
 /// The archive's side, and whether a window was only read.
-fn ask(lent: &mut raw::Controller, call: &Call) -> (raw::Reply, bool) {
-    if let Call::Sample(time, readings) = call {
+fn archive(lent: &mut raw::Controller, call: &Call) -> (raw::Reply, bool) {
+    if let Call::Sample(time, window) = call {
         // A copy that may be written to, so that a write would be seen.
+        let readings = window.to_vec();
         let mut copy = readings.clone();
         let first = copy.as_mut_ptr();
         // SAFETY: `lent` is a `&mut`, and the copy has so many readings.
         let said = unsafe { raw::chuldariin_sample(lent, *time, first, copy.len()) };
-        return (said, copy == *readings);
+        return (said, copy == readings);
     }
-    (ask_for_number(lent, call), true)
-}
-
-fn ask_for_number(lent: &mut raw::Controller, call: &Call) -> raw::Reply {
-    // SAFETY: `lent` is a `&mut`; all else are numbers.
-    unsafe {
-        match *call {
-            Call::Begin(b) => raw::chuldariin_begin(lent, b.time, b.rated, b.pause, b.ventilation),
-            Call::Limit(time, current) => raw::chuldariin_limit(lent, time, current),
-            Call::Measure(time, current) => raw::chuldariin_measure(lent, time, current),
-            Call::Fault(time, kind) => raw::chuldariin_fault(lent, time, kind),
-            Call::Clear(time) => raw::chuldariin_clear(lent, time),
-            Call::Tick(time) => raw::chuldariin_tick(lent, time),
-            Call::Sample(..) => unreachable!("a sample has its own way"),
-        }
-    }
+    (ask(lent, call, &mut Room::default()), true)
 }
 
 /// The model's side.
 fn answer(state: &State, call: &Call) -> (State, Told) {
-    match (call, call.event()) {
+    match (call, call.event(&mut Room::default())) {
         (_, Some(event)) => state.call(call.time(), &event),
         (Call::Begin(b), None) => answer_begin(state, b),
         (_, None) => unreachable!("only begin is no event"),

@@ -1,9 +1,9 @@
 //! What happens at a charging post.
 
 use crate::author::Author;
-use crate::call::Call;
 use crate::edges::{CURRENTS, GOOD_LIMITS, GOOD_LOWS, LOW_LIMITS};
 use crate::trial::Played;
+use chuldariin_log::Call;
 use chuldariin_model::{reading, Band, Reading};
 
 /// Begin, and the van comes: A or nothing, then B.

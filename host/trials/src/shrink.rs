@@ -1,6 +1,6 @@
 //! A shorter list that differs too.
 
-use crate::call::Call;
+use chuldariin_log::Call;
 
 /// Drops calls as long as the rest still differs. `differs` gives the place of
 /// the first call on which the two sides part; the list is cut there.

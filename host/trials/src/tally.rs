@@ -1,7 +1,7 @@
 //! How often everything that should occur did.
 
-use crate::call::Call;
 use crate::pair::Seen;
+use chuldariin_log::{Call, Room};
 use chuldariin_model::{begin, refusal_of_call, Begin, Conditions, Event, State};
 use std::collections::BTreeMap;
 
@@ -86,8 +86,8 @@ impl Tally {
         let reply = seen.told.reply;
         self.count("refusal", REFUSALS[reply.refusal as usize]);
         self.see_state(reply.letter, reply.digit);
-        if let Call::Sample(_, readings) = seen.call {
-            self.see_length(readings.len());
+        if let Call::Sample(_, window) = seen.call {
+            self.see_length(window.length());
         }
         if reply.refusal != 0 {
             self.count("refused", seen.call.word());
@@ -98,8 +98,8 @@ impl Tally {
         self.see_contactor(seen);
         self.see_ages(seen);
         self.see_conditions(&seen.told.conditions);
-        if let Call::Sample(_, readings) = seen.call {
-            self.see_window(readings);
+        if let Call::Sample(_, window) = seen.call {
+            self.see_window(&window.to_vec());
         }
     }
 
@@ -112,7 +112,8 @@ impl Tally {
 
     /// Refusals where a later one in their order held as well.
     fn see_order(&mut self, seen: &Seen) {
-        let Some(event) = seen.call.event() else {
+        let mut room = Room::default();
+        let Some(event) = seen.call.event(&mut room) else {
             return;
         };
         match seen.told.reply.refusal {

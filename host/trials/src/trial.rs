@@ -1,12 +1,12 @@
 //! A list of calls as it grows, and the report of a difference.
 
-use crate::call::Call;
 use crate::pair::{Difference, Pair};
 use crate::shrink::shrink;
 use crate::tally::Tally;
-use crate::text::print;
 use chuldariin::raw;
 use chuldariin::raw::Controller;
+use chuldariin_log::text::print;
+use chuldariin_log::Call;
 use chuldariin_model::State;
 
 /// Both sides agreed, or where they did not.
@@ -29,6 +29,11 @@ impl Trial {
             calls: Vec::new(),
             tally: Tally::default(),
         }
+    }
+
+    /// The calls so far.
+    pub fn calls(&self) -> &[Call] {
+        &self.calls
     }
 
     /// The state after the calls so far.

@@ -8,13 +8,6 @@ const NEAR: i32 = 200;
 /// One supporter less than enough.
 const TOO_FEW: usize = 7;
 
-/// A clean window of 256 readings.
-pub fn halves(high: i32, low: i32) -> Vec<i32> {
-    let mut readings = vec![high; 256];
-    readings[128..].fill(low);
-    readings
-}
-
 /// A length at an end of its range; mostly 256, as long windows take long.
 pub fn length(dice: &mut Dice) -> usize {
     match dice.between(0, 39) {

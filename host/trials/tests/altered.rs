@@ -2,15 +2,14 @@
 
 use chuldariin::raw;
 use chuldariin::raw::Controller;
+use chuldariin_log::text::calls;
+use chuldariin_log::{Call, Window};
 use chuldariin_trials::author::write_from;
-use chuldariin_trials::call::Call;
 use chuldariin_trials::dice::Dice;
 use chuldariin_trials::edges::LARGEST;
 use chuldariin_trials::tally::{Tally, CAUSES, FAULTS, REFUSALS, STATES};
-use chuldariin_trials::text::parse;
 use chuldariin_trials::trial::Trial;
 use chuldariin_trials::wild::{faults, verdict, wild, AGES, BYTES, CLOSINGS};
-use chuldariin_trials::windows::halves;
 
 const CHARGING: &str = "\
 begin 70000 32000 0 no
@@ -49,7 +48,7 @@ fn bases() -> Vec<raw::Controller> {
     let mut bases = Vec::new();
     for list in lists {
         let mut trial = Trial::from(Controller::ZEROED);
-        for call in parse(&list).expect("a list of calls") {
+        for call in calls(&list).expect("a list of calls") {
             check(&mut trial, call, "before any change");
         }
         bases.push(trial.lent());
@@ -222,7 +221,7 @@ const WANTED: [(&str, &[&str]); 7] = [
 
 /// Calls of each kind at one time.
 fn calls_at(time: u64) -> [Call; 17] {
-    let sample = |high, low| Call::Sample(time, halves(high, low));
+    let sample = |high, low| Call::Sample(time, Window::Halves(high, low));
     [
         Call::Tick(time),
         Call::Clear(time),
@@ -240,7 +239,7 @@ fn calls_at(time: u64) -> [Call; 17] {
         sample(3_000, -12_000),
         sample(7_200, -12_000),
         sample(15_001, -12_000),
-        Call::Sample(time, Vec::new()),
+        Call::Sample(time, Vec::new().into()),
     ]
 }
 

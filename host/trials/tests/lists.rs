@@ -1,36 +1,8 @@
 //! Lists of calls, made up by scenes from fixed seeds.
 
-use chuldariin_trials::author::{write, Author, Scene};
-use chuldariin_trials::odds::*;
-use chuldariin_trials::scenes::*;
+use chuldariin_trials::author::write;
+use chuldariin_trials::styles::{list, seeds, STYLES};
 use chuldariin_trials::tally::{Tally, FAULTS, REFUSALS};
-use chuldariin_trials::trial::Played;
-
-/// A name, how many lists, and the scenes that make them.
-type Style = (&'static str, u64, &'static [Scene]);
-
-const STYLES: [Style; 8] = [
-    (
-        "charging",
-        900,
-        &[charge, charge, leave, close, begin_again],
-    ),
-    (
-        "levels",
-        1_200,
-        &[unsound, no_band, sway, low_ends, late_d, flicker, leave],
-    ),
-    ("ages", 500, &[starve, over_run, stop, stop_unseen, close]),
-    (
-        "faults",
-        1_000,
-        &[faults, no_diode, starve, late_d, stop_unseen],
-    ),
-    ("windows", 500, &[odd_windows, odd_among_good]),
-    ("refusals", 800, &[refusals, begin_again, close, unbegun]),
-    ("clock", 600, &[last_moments, begin_again, close, starve]),
-    ("anything", 2_500, &[anything, anything_closed]),
-];
 
 const WORDS: [&str; 7] = [
     "begin", "sample", "limit", "measure", "fault", "clear", "tick",
@@ -80,27 +52,14 @@ const WANTED: [(&str, &[&str]); 11] = [
     ("greatest has", &["7", "8", "9"]),
 ];
 
-/// One list of a style: a van comes, then some of its scenes.
-fn list(author: &mut Author, scenes: &[Scene]) -> Played {
-    if author.dice.one_in(8) {
-        unbegun(author)?;
-    }
-    arrive(author)?;
-    for _ in 0..author.dice.between(1, 4) {
-        let scene = author.dice.pick(scenes);
-        scene(author)?;
-    }
-    Ok(())
-}
-
 #[test]
 fn both_sides_agree_on_every_list() {
     let mut tally = Tally::default();
     let mut reports = Vec::new();
-    for (place, (name, lists, scenes)) in STYLES.into_iter().enumerate() {
-        let first = place as u64 * 1_000_000;
+    for style in 0..STYLES.len() {
+        let (name, _, scenes) = STYLES[style];
         // A style ends at its first difference, and all of them at the third.
-        let written = (first..first + lists)
+        let written = seeds(style)
             .try_for_each(|seed| write(name, seed, &mut tally, |author| list(author, scenes)));
         reports.extend(written.err());
         if reports.len() == 3 {

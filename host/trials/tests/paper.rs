@@ -1,11 +1,10 @@
 //! The paper's bench figures and field faults, as lists of text, on both sides.
 
 use chuldariin::raw::Controller;
+use chuldariin_log::text::calls;
+use chuldariin_log::{Call, Window};
 use chuldariin_model::{Band, State};
-use chuldariin_trials::call::Call;
-use chuldariin_trials::text::parse;
 use chuldariin_trials::trial::Trial;
-use chuldariin_trials::windows::halves;
 
 /// B2 at 20, closed at 40.
 const CHARGING: &str = "\
@@ -29,7 +28,7 @@ fn run(calls: Vec<Call>) -> State {
 }
 
 fn list(text: &str) -> Vec<Call> {
-    parse(&format!("{CHARGING}{text}")).expect("a list of calls")
+    calls(&format!("{CHARGING}{text}")).expect("a list of calls")
 }
 
 /// The state after charging and these calls.
@@ -40,7 +39,7 @@ fn after(text: &str) -> State {
 /// Ready samples every 10 ms, both ends in.
 fn ready(from: u64, to: u64) -> impl Iterator<Item = Call> {
     let times = (from..=to).step_by(10);
-    times.map(|time| Call::Sample(time, halves(6_000, -12_000)))
+    times.map(|time| Call::Sample(time, Window::Halves(6_000, -12_000)))
 }
 
 #[test]
@@ -116,7 +115,7 @@ fn duties_just_above_51_a() {
         let text = format!(
             "begin 0 80000 0 no\nlimit 0 {limit}\nsample 10 9000 9000\nsample 20 9000 9000\n"
         );
-        let state = run(parse(&text).expect("a list of calls"));
+        let state = run(calls(&text).expect("a list of calls"));
         assert_eq!((state.settled, state.wave), (Some(Band::B), wave));
     }
 }

@@ -1,5 +1,6 @@
 //! A call with its arguments.
 
+use crate::window::{Room, Window};
 use chuldariin_model::{Begin, Event};
 
 /// The seven calls. The first number of all but begin is the time, ms.
@@ -7,7 +8,7 @@ use chuldariin_model::{Begin, Event};
 pub enum Call {
     Begin(Begin),
     /// A window of readings, mV.
-    Sample(u64, Vec<i32>),
+    Sample(u64, Window),
     /// The depot's limit, mA.
     Limit(u64, u32),
     /// The largest line current, mA.
@@ -32,10 +33,10 @@ impl Call {
     }
 
     /// Kind and arguments as the model takes them; none for begin.
-    pub fn event(&self) -> Option<Event<'_>> {
+    pub fn event<'a>(&'a self, room: &'a mut Room) -> Option<Event<'a>> {
         match self {
             Call::Begin(_) => None,
-            Call::Sample(_, readings) => Some(Event::Sample(readings)),
+            Call::Sample(_, window) => Some(Event::Sample(window.readings(room))),
             Call::Limit(_, current) => Some(Event::Limit(*current)),
             Call::Measure(_, current) => Some(Event::Measure(*current)),
             Call::Fault(_, kind) => Some(Event::Fault(*kind)),
@@ -44,8 +45,7 @@ impl Call {
         }
     }
 
-    /// The word that stands first in its line of text; a sample is one even if
-    /// it is printed as a window.
+    /// The name of the call; a sample has it even if its line is a `window`.
     pub fn word(&self) -> &'static str {
         match self {
             Call::Begin(_) => "begin",

@@ -1,0 +1,22 @@
+//! Logs of a post's calls: as text and back, and put to the proved archive.
+//!
+//! | File | What it holds |
+//! |---|---|
+//! | `call` | a call with its arguments |
+//! | `window` | the readings of a sample |
+//! | `text` | a log as text, one call a line |
+//! | `wrong` | what is wrong with a line, and what is expected |
+//! | `ask` | a call put to the archive |
+//! | `meaning` | what the archive's controller means, as the model's state |
+
+pub mod ask;
+pub mod call;
+pub mod meaning;
+pub mod text;
+pub mod window;
+pub mod wrong;
+
+pub use call::Call;
+pub use text::{Entry, Line};
+pub use window::{Room, Window};
+pub use wrong::Wrong;

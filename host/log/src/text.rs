@@ -1,0 +1,299 @@
+//! A log as text, one call a line, and back.
+//!
+//! ```text
+//! begin TIME RATED PAUSE yes|no
+//! sample TIME HIGH LOW       256 readings, first half at HIGH, second half at LOW
+//! window TIME r1 r2 ..       the readings one by one
+//! limit TIME MA
+//! measure TIME MA
+//! fault TIME KIND
+//! clear TIME
+//! tick TIME
+//! ```
+//!
+//! Values are whole numbers in digits, apart by spaces or tabs. What follows a `#` is a comment. Empty lines
+//! are left out, and a line may end in CR LF.
+
+use crate::call::Call;
+use crate::window::Window;
+use crate::wrong::Wrong;
+use chuldariin_model::Begin;
+use std::fmt;
+use std::str::{FromStr, SplitAsciiWhitespace};
+
+/// Each word that a line may start with, and its form.
+const FORMS: [(&str, &str); 8] = [
+    ("begin", "begin TIME RATED PAUSE yes|no"),
+    ("sample", "sample TIME HIGH LOW"),
+    ("window", "window TIME r1 r2 .."),
+    ("limit", "limit TIME MA"),
+    ("measure", "measure TIME MA"),
+    ("fault", "fault TIME KIND"),
+    ("clear", "clear TIME"),
+    ("tick", "tick TIME"),
+];
+
+const CALLS: &str = "begin, sample, window, limit, measure, fault, clear or tick";
+const DIGITS: &str = "a whole number in digits alone, like 32000 or -12000";
+const TEXT: &str = "plain text (UTF-8)";
+
+/// So much of a word is shown, in characters.
+const SHOWN: usize = 24;
+
+/// A line of a log that is not empty.
+#[derive(Clone, Debug, PartialEq, Eq)]
+pub struct Entry {
+    /// Its number, from 1.
+    pub line: usize,
+    pub what: Line,
+}
+
+#[derive(Clone, Debug, PartialEq, Eq)]
+pub enum Line {
+    Call(Call),
+    /// A comment that has its line for itself.
+    Comment(String),
+}
+
+impl fmt::Display for Call {
+    fn fmt(&self, f: &mut fmt::Formatter) -> fmt::Result {
+        let word = self.word();
+        match self {
+            Call::Begin(b) => {
+                let ventilation = if b.ventilation { "yes" } else { "no" };
+                write!(f, "{word} {} {} {} {ventilation}", b.time, b.rated, b.pause)
+            }
+            Call::Sample(time, window) => write_window(f, *time, window),
+            Call::Limit(time, number) | Call::Measure(time, number) | Call::Fault(time, number) => {
+                write!(f, "{word} {time} {number}")
+            }
+            Call::Clear(time) | Call::Tick(time) => write!(f, "{word} {time}"),
+        }
+    }
+}
+
+fn write_window(f: &mut fmt::Formatter, time: u64, window: &Window) -> fmt::Result {
+    match window {
+        Window::Halves(high, low) => write!(f, "sample {time} {high} {low}"),
+        Window::Readings(readings) => {
+            write!(f, "window {time}")?;
+            let mut readings = readings.iter();
+            readings.try_for_each(|reading| write!(f, " {reading}"))
+        }
+    }
+}
+
+/// A list of calls as text.
+pub fn print(calls: &[Call]) -> String {
+    let mut text = String::new();
+    for call in calls {
+        text.push_str(&format!("{call}\n"));
+    }
+    text
+}
+
+/// The calls of a text, or all that is wrong with it.
+pub fn calls(text: &str) -> Result<Vec<Call>, Vec<Wrong>> {
+    let call = |entry: Entry| match entry.what {
+        Line::Call(call) => Some(call),
+        Line::Comment(_) => None,
+    };
+    Ok(parse(text.as_bytes())?
+        .into_iter()
+        .filter_map(call)
+        .collect())
+}
+
+/// The lines of a text, or all that is wrong with it.
+pub fn parse(text: &[u8]) -> Result<Vec<Entry>, Vec<Wrong>> {
+    // The mark that some editors put before UTF-8.
+    let text = text.strip_prefix(b"\xef\xbb\xbf").unwrap_or(text);
+    let (mut entries, mut wrong) = (Vec::new(), Vec::new());
+    for (place, bytes) in text.split(|&byte| byte == b'\n').enumerate() {
+        let line = place + 1;
+        match parse_line(line, bytes.strip_suffix(b"\r").unwrap_or(bytes)) {
+            Ok(Some(what)) => entries.push(Entry { line, what }),
+            Ok(None) => {}
+            Err(told) => wrong.push(told),
+        }
+    }
+    if wrong.is_empty() {
+        Ok(entries)
+    } else {
+        Err(wrong)
+    }
+}
+
+fn parse_line(line: usize, bytes: &[u8]) -> Result<Option<Line>, Wrong> {
+    let text = std::str::from_utf8(bytes).map_err(|error| Wrong {
+        line,
+        what: format!(
+            "byte {} (0x{:02x}) is not of any text",
+            error.valid_up_to() + 1,
+            bytes[error.valid_up_to()]
+        ),
+        expected: TEXT,
+    })?;
+    let (call, comment) = match text.split_once('#') {
+        Some((call, comment)) => (call, Some(comment)),
+        None => (text, None),
+    };
+    let mut words = call.split_ascii_whitespace();
+    match (words.next(), comment) {
+        (Some(word), _) => parse_call(line, word, words).map(|call| Some(Line::Call(call))),
+        (None, Some(comment)) => Ok(Some(Line::Comment(comment.trim().to_string()))),
+        (None, None) => Ok(None),
+    }
+}
+
+fn parse_call(line: usize, word: &str, words: SplitAsciiWhitespace) -> Result<Call, Wrong> {
+    let Some((_, form)) = FORMS.iter().find(|form| form.0 == word) else {
+        let what = format!("{} is no call", quoted(word));
+        return Err(Wrong {
+            line,
+            what,
+            expected: CALLS,
+        });
+    };
+    let mut values = Values { line, form, words };
+    let time = values.number("TIME")?;
+    let call = match word {
+        "begin" => Call::Begin(Begin {
+            time,
+            rated: values.number("RATED")?,
+            pause: values.number("PAUSE")?,
+            ventilation: values.yes_or_no()?,
+        }),
+        "sample" => Call::Sample(
+            time,
+            Window::Halves(values.number("HIGH")?, values.number("LOW")?),
+        ),
+        "window" => Call::Sample(time, values.readings()?.into()),
+        "limit" => Call::Limit(time, values.number("MA")?),
+        "measure" => Call::Measure(time, values.number("MA")?),
+        "fault" => Call::Fault(time, values.number("KIND")?),
+        "clear" => Call::Clear(time),
+        _ => Call::Tick(time),
+    };
+    values.end()?;
+    Ok(call)
+}
+
+/// The values of a call that are still to be read.
+struct Values<'a> {
+    line: usize,
+    form: &'static str,
+    words: SplitAsciiWhitespace<'a>,
+}
+
+impl<'a> Values<'a> {
+    fn wrong(&self, what: String, expected: &'static str) -> Wrong {
+        Wrong {
+            line: self.line,
+            what,
+            expected,
+        }
+    }
+
+    fn next(&mut self, name: &str) -> Result<&'a str, Wrong> {
+        match self.words.next() {
+            Some(word) => Ok(word),
+            None => Err(self.wrong(format!("{name} is missing"), self.form)),
+        }
+    }
+
+    fn number<T: Whole>(&mut self, name: &str) -> Result<T, Wrong> {
+        let word = self.next(name)?;
+        number(word).ok_or_else(|| self.no_number::<T>(name, word))
+    }
+
+    /// Why a word is no number of this type.
+    fn no_number<T: Whole>(&self, name: &str, word: &str) -> Wrong {
+        let shown = quoted(word);
+        let digits = word.strip_prefix('-').unwrap_or(word);
+        let whole = !digits.is_empty() && digits.bytes().all(|byte| byte.is_ascii_digit());
+        let what = match (whole, word.starts_with('-')) {
+            (true, false) => format!("{name} {shown} is too large: the most is {}", T::MOST),
+            (true, true) => format!("{name} {shown} is too small: the least is {}", T::LEAST),
+            _ => format!("{name} {shown} is no number"),
+        };
+        self.wrong(what, if whole { self.form } else { DIGITS })
+    }
+
+    fn yes_or_no(&mut self) -> Result<bool, Wrong> {
+        match self.next("yes|no (has the post ventilation?)")? {
+            "yes" => Ok(true),
+            "no" => Ok(false),
+            other => Err(self.wrong(
+                format!("{} is neither yes nor no", quoted(other)),
+                self.form,
+            )),
+        }
+    }
+
+    fn readings(&mut self) -> Result<Vec<i32>, Wrong> {
+        let mut readings = Vec::new();
+        while let Some(word) = self.words.next() {
+            let place = readings.len() + 1;
+            readings.push(
+                number(word)
+                    .ok_or_else(|| self.no_number::<i32>(&format!("reading {place}"), word))?,
+            );
+        }
+        Ok(readings)
+    }
+
+    /// Nothing may follow.
+    fn end(mut self) -> Result<(), Wrong> {
+        match self.words.next() {
+            None => Ok(()),
+            Some(word) => {
+                Err(self.wrong(format!("{} is one value too many", quoted(word)), self.form))
+            }
+        }
+    }
+}
+
+/// A number that is written in digits alone, but for the sign of one below 0.
+fn number<T: Whole>(word: &str) -> Option<T> {
+    match word.starts_with('+') {
+        true => None,
+        false => word.parse().ok(),
+    }
+}
+
+/// A whole number of a type with two ends.
+trait Whole: FromStr + fmt::Display {
+    const LEAST: Self;
+    const MOST: Self;
+}
+
+impl Whole for u32 {
+    const LEAST: u32 = u32::MIN;
+    const MOST: u32 = u32::MAX;
+}
+
+impl Whole for u64 {
+    const LEAST: u64 = u64::MIN;
+    const MOST: u64 = u64::MAX;
+}
+
+impl Whole for i32 {
+    const LEAST: i32 = i32::MIN;
+    const MOST: i32 = i32::MAX;
+}
+
+/// A word between quotes, cut if it is long, with nothing in it that a terminal would obey.
+fn quoted(word: &str) -> String {
+    let shown: String = word
+        .chars()
+        .take(SHOWN)
+        .flat_map(char::escape_debug)
+        .collect();
+    let cut = if word.chars().count() > SHOWN {
+        ".."
+    } else {
+        ""
+    };
+    format!("'{shown}{cut}'")
+}

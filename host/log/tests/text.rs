@@ -1,0 +1,117 @@
+//! Logs as text and back, and what is said of a line that is no call.
+
+use chuldariin_log::text::{calls, parse, print};
+use chuldariin_log::{Call, Entry, Line, Window};
+
+const TEXT: &str = "\
+begin 0 32000 0 no
+begin 18446744073709551615 4294967295 60001 yes
+sample 10 9000 -12000
+sample 10 -2147483648 2147483647
+window 20
+window 20 -15001
+window 20 1 2 3
+limit 30 32000
+measure 40 200001
+fault 50 3
+clear 1000000000000
+tick 1000000000001
+";
+
+/// Lines that are no calls, and what is said of each.
+const WRONG: [(&str, &str); 30] = [
+    ("tick", "TIME is missing; expected tick TIME"),
+    ("tick # 1", "TIME is missing; expected tick TIME"),
+    ("limit 1", "MA is missing; expected limit TIME MA"),
+    ("fault 1", "KIND is missing; expected fault TIME KIND"),
+    ("sample 10 9000", "LOW is missing; expected sample TIME HIGH LOW"),
+    ("begin 0", "RATED is missing; expected begin TIME RATED PAUSE yes|no"),
+    ("begin 0 32000 0", "yes|no (has the post ventilation?) is missing; expected begin TIME RATED PAUSE yes|no"),
+    ("begin 0 32000 0 maybe", "'maybe' is neither yes nor no; expected begin TIME RATED PAUSE yes|no"),
+    ("begin 0 32000 0 no 5", "'5' is one value too many; expected begin TIME RATED PAUSE yes|no"),
+    ("tick 1 2", "'2' is one value too many; expected tick TIME"),
+    ("tick 1\rtick 2", "'tick' is one value too many; expected tick TIME"),
+    ("Tick 1", "'Tick' is no call; expected begin, sample, window, limit, measure, fault, clear or tick"),
+    ("step 1", "'step' is no call; expected begin, sample, window, limit, measure, fault, clear or tick"),
+    ("10 tick", "'10' is no call; expected begin, sample, window, limit, measure, fault, clear or tick"),
+    ("tick -1", "TIME '-1' is too small: the least is 0; expected tick TIME"),
+    ("tick +1", "TIME '+1' is no number; expected a whole number in digits alone, like 32000 or -12000"),
+    ("tick 1_000", "TIME '1_000' is no number; expected a whole number in digits alone, like 32000 or -12000"),
+    ("tick 1,000", "TIME '1,000' is no number; expected a whole number in digits alone, like 32000 or -12000"),
+    ("tick 0x10", "TIME '0x10' is no number; expected a whole number in digits alone, like 32000 or -12000"),
+    ("limit 0 32.5", "MA '32.5' is no number; expected a whole number in digits alone, like 32000 or -12000"),
+    ("limit 0 -", "MA '-' is no number; expected a whole number in digits alone, like 32000 or -12000"),
+    ("tick 18446744073709551616", "TIME '18446744073709551616' is too large: the most is 18446744073709551615; expected tick TIME"),
+    ("limit 1 4294967296", "MA '4294967296' is too large: the most is 4294967295; expected limit TIME MA"),
+    ("sample 10 2147483648 0", "HIGH '2147483648' is too large: the most is 2147483647; expected sample TIME HIGH LOW"),
+    ("sample 10 0 -2147483649", "LOW '-2147483649' is too small: the least is -2147483648; expected sample TIME HIGH LOW"),
+    ("window", "TIME is missing; expected window TIME r1 r2 .."),
+    ("window 10 1 x", "reading 2 'x' is no number; expected a whole number in digits alone, like 32000 or -12000"),
+    ("tick \u{1b}[2J", "TIME '\\u{1b}[2J' is no number; expected a whole number in digits alone, like 32000 or -12000"),
+    ("tick 99999999999999999999999999999999", "TIME '999999999999999999999999..' is too large: the most is 18446744073709551615; expected tick TIME"),
+    ("tick \u{661}", "TIME '\u{661}' is no number; expected a whole number in digits alone, like 32000 or -12000"),
+];
+
+#[test]
+fn text_comes_back_as_it_was() {
+    let list = calls(TEXT).expect("a list of calls");
+    assert_eq!(list.len(), 12);
+    assert_eq!(print(&list), TEXT);
+    assert_eq!(list[2], Call::Sample(10, Window::Halves(9_000, -12_000)));
+    assert_eq!(list[4], Call::Sample(20, Window::Readings(Vec::new())));
+}
+
+#[test]
+fn equal_readings_are_equal_windows() {
+    let mut readings = vec![9_000; 256];
+    readings[128..].fill(-12_000);
+    let words: Vec<String> = readings.iter().map(i32::to_string).collect();
+    let list = calls(&format!("window 10 {}", words.join(" "))).expect("a window");
+    assert_eq!(list, calls("sample 10 9000 -12000").expect("a sample"));
+    assert_eq!(Window::Halves(9_000, -12_000).to_vec(), readings);
+    readings[127] = 8_999;
+    assert_eq!(Window::from(readings.clone()), Window::Readings(readings));
+}
+
+#[test]
+fn every_line_that_is_no_call_is_told() {
+    for (line, said) in WRONG {
+        let text = format!("tick 0\n{line}\ntick 2\n");
+        let wrong = calls(&text).expect_err(line);
+        assert_eq!(wrong.len(), 1, "{line}");
+        assert_eq!(wrong[0].to_string(), format!("line 2: {said}"));
+    }
+}
+
+#[test]
+fn all_wrong_lines_are_told_in_their_order() {
+    let wrong = calls("step 1\ntick 1\n\n# tick\ntick\n").expect_err("two lines are wrong");
+    let lines: Vec<usize> = wrong.iter().map(|wrong| wrong.line).collect();
+    assert_eq!(lines, [1, 5]);
+}
+
+#[test]
+fn bytes_that_are_no_text() {
+    let wrong = parse(b"tick 1\ntick \xff\n").expect_err("0xff is in no UTF-8");
+    assert_eq!(
+        wrong[0].to_string(),
+        "line 2: byte 6 (0xff) is not of any text; expected plain text (UTF-8)"
+    );
+}
+
+#[test]
+fn spaces_comments_line_ends_and_marks() {
+    let said = "\u{feff}# first\r\n\r\n  tick\t 1  # late\r\n#\r\ntick 0002\r\nlimit 3 0#";
+    let entry = |line, what| Entry { line, what };
+    assert_eq!(
+        parse(said.as_bytes()),
+        Ok(vec![
+            entry(1, Line::Comment("first".to_string())),
+            entry(3, Line::Call(Call::Tick(1))),
+            entry(4, Line::Comment(String::new())),
+            entry(5, Line::Call(Call::Tick(2))),
+            entry(6, Line::Call(Call::Limit(3, 0))),
+        ])
+    );
+    assert_eq!(parse(b""), Ok(Vec::new()));
+}

@@ -1,0 +1,52 @@
+//! The lists of the trials: styles of scenes, each with its seeds.
+
+use crate::author::{Author, Scene};
+use crate::odds::*;
+use crate::scenes::*;
+use crate::trial::Played;
+use std::ops::Range;
+
+/// A name, how many lists, and the scenes that make them.
+pub type Style = (&'static str, u64, &'static [Scene]);
+
+pub const STYLES: [Style; 8] = [
+    (
+        "charging",
+        900,
+        &[charge, charge, leave, close, begin_again],
+    ),
+    (
+        "levels",
+        1_200,
+        &[unsound, no_band, sway, low_ends, late_d, flicker, leave],
+    ),
+    ("ages", 500, &[starve, over_run, stop, stop_unseen, close]),
+    (
+        "faults",
+        1_000,
+        &[faults, no_diode, starve, late_d, stop_unseen],
+    ),
+    ("windows", 500, &[odd_windows, odd_among_good]),
+    ("refusals", 800, &[refusals, begin_again, close, unbegun]),
+    ("clock", 600, &[last_moments, begin_again, close, starve]),
+    ("anything", 2_500, &[anything, anything_closed]),
+];
+
+/// The seeds of a style's lists.
+pub fn seeds(style: usize) -> Range<u64> {
+    let first = style as u64 * 1_000_000;
+    first..first + STYLES[style].1
+}
+
+/// One list of a style: a van comes, then some of its scenes.
+pub fn list(author: &mut Author, scenes: &[Scene]) -> Played {
+    if author.dice.one_in(8) {
+        unbegun(author)?;
+    }
+    arrive(author)?;
+    for _ in 0..author.dice.between(1, 4) {
+        let scene = author.dice.pick(scenes);
+        scene(author)?;
+    }
+    Ok(())
+}
