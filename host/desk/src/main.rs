@@ -1,1 +1,79 @@
-fn main() {}
+//! The command `chuldariin`.
+
+use chuldariin_desk::demo;
+use chuldariin_desk::input::{read, Log, Unfit};
+use chuldariin_desk::options::{command, Command, USAGE};
+use chuldariin_desk::paint::Paint;
+use chuldariin_desk::plot::plot;
+use chuldariin_desk::progress::Progress;
+use chuldariin_desk::replay::replay;
+use chuldariin_desk::why::{why, TooEarly};
+use std::error::Error;
+use std::io::{self, BufWriter, Write};
+use std::process::ExitCode;
+
+/// It could not be finished.
+const FAILED: u8 = 1;
+/// The log or the command is wrong.
+const WRONG: u8 = 2;
+
+fn main() -> ExitCode {
+    let words: Vec<String> = std::env::args_os()
+        .skip(1)
+        .map(|word| word.to_string_lossy().into_owned())
+        .collect();
+    let told = match command(&words) {
+        Ok(command) => run(command),
+        Err(what) => {
+            eprintln!("chuldariin: {what}\n\n{USAGE}");
+            return ExitCode::from(WRONG);
+        }
+    };
+    match told {
+        Ok(()) => ExitCode::SUCCESS,
+        // Whoever read the output has had enough of it.
+        Err(error) if is_closed_pipe(&*error) => ExitCode::SUCCESS,
+        Err(error) => {
+            eprintln!("chuldariin: {error}");
+            let wrong = error.is::<Unfit>() || error.is::<TooEarly>();
+            ExitCode::from(if wrong { WRONG } else { FAILED })
+        }
+    }
+}
+
+fn is_closed_pipe(error: &(dyn Error + 'static)) -> bool {
+    error
+        .downcast_ref::<io::Error>()
+        .is_some_and(|error| error.kind() == io::ErrorKind::BrokenPipe)
+}
+
+fn run(command: Command) -> Result<(), Box<dyn Error>> {
+    let mut out = BufWriter::with_capacity(1 << 16, io::stdout().lock());
+    let paint = Paint::for_stdout();
+    match command {
+        Command::Help => writeln!(out, "{USAGE}")?,
+        Command::Replay { file, only } => {
+            let log = read(&file)?;
+            replay(
+                &log,
+                only,
+                paint,
+                Progress::of(log.calls().count() as u64),
+                &mut out,
+            )?;
+        }
+        Command::Why { file, at } => why(&read(&file)?, at, paint, &mut out)?,
+        Command::Plot { file, out: to } => picture(&read(&file)?, &file, &to, &mut out)?,
+        Command::Demo { folder } => demo::demo(&folder, paint, &mut out)?,
+    }
+    Ok(out.flush()?)
+}
+
+fn picture(log: &Log, name: &str, to: &str, out: &mut impl Write) -> Result<(), Box<dyn Error>> {
+    let svg = plot(log, name)?;
+    match to {
+        "-" => out.write_all(svg.as_bytes())?,
+        _ => demo::write(to, &svg)?,
+    }
+    Ok(())
+}

@@ -7,12 +7,16 @@
 //! | `text` | a log as text, one call a line |
 //! | `wrong` | what is wrong with a line, and what is expected |
 //! | `ask` | a call put to the archive |
+//! | `answer` | a call put to the model |
 //! | `meaning` | what the archive's controller means, as the model's state |
+//! | `unlike` | where the two part |
 
+pub mod answer;
 pub mod ask;
 pub mod call;
 pub mod meaning;
 pub mod text;
+pub mod unlike;
 pub mod window;
 pub mod wrong;
 

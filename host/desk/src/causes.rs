@@ -1,0 +1,217 @@
+//! What happened in a call, and why: closings, openings with their causes, latches, over-runs and stops.
+
+use crate::turn::{Sample, Turn};
+use crate::words::{faults, grouped, letter, refusal, why_steady, FAULTS, NUMERALS};
+use chuldariin_log::Call;
+use chuldariin_model::{reading, Reading, State};
+
+/// The age at which a stop opens the contactor, ms.
+const STOP: u64 = 3_000;
+/// The age at which an over-run latches fault 2, ms.
+const OVERRUN: u64 = 5_000;
+
+/// How a note stands out.
+#[derive(Clone, Copy, Debug, PartialEq, Eq)]
+pub enum Kind {
+    Closed,
+    Opened,
+    Refused,
+    /// Any other that is worth a line.
+    Event,
+}
+
+/// What happened in a call, in words.
+pub struct Note {
+    pub kind: Kind,
+    pub words: String,
+}
+
+/// All that is to be said of a call; mostly nothing.
+pub fn notes(turn: &Turn) -> Vec<Note> {
+    if !turn.accepted() {
+        let words = format!("REFUSED {}: {}", turn.reply.refusal, refusal(turn));
+        return vec![note(Kind::Refused, words)];
+    }
+    if let Call::Begin(_) = turn.call {
+        return begun(turn);
+    }
+    let mut notes = Vec::new();
+    if turn.told.opened {
+        notes.push(note(Kind::Opened, opened(turn)));
+    }
+    if turn.told.closing {
+        notes.push(note(Kind::Closed, closed(turn)));
+    }
+    latched(turn, &mut notes);
+    if !turn.told.opened {
+        overrun(turn, &mut notes);
+        stop(turn, &mut notes);
+    }
+    notes
+}
+
+fn note(kind: Kind, words: String) -> Note {
+    Note { kind, words }
+}
+
+fn begun(turn: &Turn) -> Vec<Note> {
+    let ventilation = if turn.after.ventilation { "" } else { "no " };
+    let pause = grouped(turn.after.pause);
+    let words = format!("a new list begins: pause {pause} ms, {ventilation}ventilation");
+    let mut notes = vec![note(Kind::Event, words)];
+    if turn.begun_while_closed() {
+        notes.insert(
+            0,
+            note(Kind::Opened, "OPENED: by the new begin".to_string()),
+        );
+    }
+    notes
+}
+
+/// The faults that this call latched, or was told again.
+fn latched(turn: &Turn, notes: &mut Vec<Note>) {
+    for (place, name) in FAULTS.iter().enumerate() {
+        if turn.told.latched[place] {
+            let why = match (place, turn.sample, turn.previous) {
+                (0, Some(this), Ok(previous)) => {
+                    format!(
+                        ": {}",
+                        of_both(&previous, &this, |sample| why_low(sample.low))
+                    )
+                }
+                (1, _, _) => format!(": the over-run began {}", ago(turn.before.overrun, turn)),
+                _ if turn.before.faults[place] => " again".to_string(),
+                _ => String::new(),
+            };
+            notes.push(note(
+                Kind::Event,
+                format!("fault {} ({name}){why}", place + 1),
+            ));
+        }
+    }
+}
+
+/// What is said of two samples, once if it is the same.
+fn of_both(previous: &Sample, this: &Sample, why: impl Fn(&Sample) -> String) -> String {
+    let (one, other) = (why(previous), why(this));
+    match one == other {
+        true => format!("{one} at {} and {}", previous.time, this.time),
+        false => format!("{one} at {}, {other} at {}", previous.time, this.time),
+    }
+}
+
+fn ago(start: Option<u64>, turn: &Turn) -> String {
+    match start {
+        Some(start) => format!("{} ms ago, at {start}", grouped(turn.after.last - start)),
+        None => "in this call".to_string(),
+    }
+}
+
+/// The causes that held, each with its number.
+fn opened(turn: &Turn) -> String {
+    let held = (0..5).filter(|&cause| turn.told.causes[cause]);
+    let causes: Vec<String> = held
+        .map(|cause| format!("{} ({})", because(turn, cause), NUMERALS[cause]))
+        .collect();
+    format!("OPENED: {}", causes.join("; "))
+}
+
+/// One cause in words, with its figures.
+pub fn because(turn: &Turn, cause: usize) -> String {
+    match (cause, turn.sample, turn.previous) {
+        (0, Some(this), Ok(previous)) => format!(
+            "two unsound samples in a row: {}",
+            of_both(&previous, &this, why_unsound)
+        ),
+        (1, _, _) => match turn.after.sound {
+            Some(sound) => format!(
+                "{} ms since the last sound sample",
+                grouped(turn.after.last - sound)
+            ),
+            None => "no sound sample so far".to_string(),
+        },
+        (2, _, _) => "state D, and the post has no ventilation".to_string(),
+        (3, _, _) => format!("the stop began {}", ago(turn.before.stop, turn)),
+        (4, _, _) => format!("fault: {}", faults(&turn.after.faults)),
+        _ => "two unsound samples in a row".to_string(),
+    }
+}
+
+/// Why a sample is not sound: its high level, else its low one.
+pub fn why_unsound(sample: &Sample) -> String {
+    let high = grouped(sample.high);
+    match sample.high {
+        1_501..7_500 => why_low(sample.low),
+        _ => format!("high {high} mV is not between 1,500 and 7,500"),
+    }
+}
+
+pub fn low_band(low: i32) -> bool {
+    (-13_000..=-11_000).contains(&low)
+}
+
+pub fn why_low(low: i32) -> String {
+    format!("low {} mV is outside -13,000 to -11,000", grouped(low))
+}
+
+/// What a closing rests on.
+pub fn closed(turn: &Turn) -> String {
+    let band = letter(turn.sample.and_then(|sample| sample.verdict.band));
+    let samples = match (turn.previous, turn.sample) {
+        (Ok(previous), Some(this)) => format!("{} and {}", previous.time, this.time),
+        _ => String::new(),
+    };
+    let rest = match turn.before.opening {
+        Some(opening) => format!(
+            "{} ms after the opening at {opening}, pause {} ms",
+            grouped(turn.after.last - opening),
+            grouped(turn.after.pause)
+        ),
+        None => "never opened before".to_string(),
+    };
+    format!("CLOSED: proven in {band} at {samples}; {rest}")
+}
+
+/// A measure that starts or ends an over-run.
+fn overrun(turn: &Turn, notes: &mut Vec<Note>) {
+    let words = match (turn.before.overrun, turn.after.overrun, turn.call) {
+        (None, Some(start), Call::Measure(_, current)) => format!(
+            "over-run starts: {} mA is above {}; fault 2 at {} unless it ends",
+            grouped(*current),
+            allowed(&turn.before),
+            start + OVERRUN
+        ),
+        (Some(start), None, _) if !turn.told.latched[1] => {
+            format!("over-run ends, {} ms old", grouped(turn.after.last - start))
+        }
+        _ => return,
+    };
+    notes.push(note(Kind::Event, words));
+}
+
+/// The largest current that is no over-run: 1.1 times the announced one.
+fn allowed(state: &State) -> String {
+    match reading(state.wave) {
+        Ok(Reading::Current(current)) => format!(
+            "{} (1.1 x {})",
+            grouped(11 * current / 10),
+            grouped(current)
+        ),
+        _ => "nothing".to_string(),
+    }
+}
+
+fn stop(turn: &Turn, notes: &mut Vec<Note>) {
+    let words = match (turn.before.stop, turn.after.stop) {
+        (None, Some(start)) => format!(
+            "stop starts: {}; opens at {} unless a wave is driven before",
+            why_steady(&turn.after),
+            start + STOP
+        ),
+        (Some(start), None) => {
+            format!("stop ends, {} ms old", grouped(turn.after.last - start))
+        }
+        _ => return,
+    };
+    notes.push(note(Kind::Event, words));
+}

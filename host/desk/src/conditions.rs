@@ -1,0 +1,176 @@
+//! The closing conditions of a call, each with what it rests on.
+
+use crate::causes::{low_band, why_low};
+use crate::turn::{Forgotten, Sample, Turn};
+use crate::words::{call, faults, grouped, letter, wave, why_steady};
+use chuldariin_log::Call;
+use chuldariin_model::{driven, Band, Conditions};
+
+/// One closing condition.
+pub struct Condition {
+    pub name: &'static str,
+    pub holds: bool,
+    pub detail: String,
+}
+
+/// The closing conditions of an accepted call.
+pub fn conditions(turn: &Turn) -> Vec<Condition> {
+    let found = found(turn);
+    let condition = |name, holds, detail| Condition {
+        name,
+        holds,
+        detail,
+    };
+    vec![
+        condition("contactor open before", found.open_before, String::new()),
+        condition("not opened in this call", found.not_opened, String::new()),
+        condition("a sample call", found.sample, call(turn)),
+        condition("wave driven", found.wave_driven, wave_detail(turn)),
+        condition("this sample proven", found.this_proven, this_detail(turn)),
+        condition(
+            "previous sample proven",
+            found.previous_proven,
+            previous_detail(turn),
+        ),
+        condition("both in one band", found.same_band, band_detail(turn)),
+        condition("pause", found.pause_over, pause_detail(turn)),
+    ]
+}
+
+/// Begin has no step 5, but a contactor that is open, and no pause to wait for.
+fn found(turn: &Turn) -> Conditions {
+    match turn.call {
+        Call::Begin(_) => Conditions {
+            open_before: true,
+            not_opened: true,
+            pause_over: true,
+            ..Conditions::default()
+        },
+        _ => turn.told.conditions,
+    }
+}
+
+fn wave_detail(turn: &Turn) -> String {
+    let wave = wave(turn.after.wave);
+    match driven(turn.after.wave) {
+        true => wave,
+        false => format!("{wave}: {}", why_steady(&turn.after)),
+    }
+}
+
+fn this_detail(turn: &Turn) -> String {
+    match turn.sample {
+        Some(sample) => why_unproven(&sample, turn.before.ventilation),
+        None => "there is none in this call".to_string(),
+    }
+}
+
+fn previous_detail(turn: &Turn) -> String {
+    if turn.told.opened || turn.told.latched.contains(&true) {
+        return "it is forgotten in this call".to_string();
+    }
+    match turn.previous {
+        Ok(sample) => format!(
+            "at {}: {}",
+            sample.time,
+            why_unproven(&sample, turn.before.ventilation)
+        ),
+        Err(forgotten) => why_forgotten(forgotten),
+    }
+}
+
+fn why_forgotten(forgotten: Forgotten) -> String {
+    match forgotten {
+        Forgotten::Never => "there is none since begin".to_string(),
+        Forgotten::Opening(time) => format!("it was forgotten by the opening at {time}"),
+        Forgotten::Fault(time) => format!("it was forgotten by the fault at {time}"),
+    }
+}
+
+/// Why a sample is not proven, or that it is.
+fn why_unproven(sample: &Sample, ventilation: bool) -> String {
+    let mut why = Vec::new();
+    let high = grouped(sample.high);
+    match sample.verdict.band {
+        Some(Band::C) => {}
+        Some(Band::D) if ventilation => {}
+        Some(Band::D) => why.push(format!(
+            "high {high} mV is D, and the post has no ventilation"
+        )),
+        Some(band) => why.push(format!(
+            "high {high} mV is {}, not a ready band",
+            letter(Some(band))
+        )),
+        None => why.push(format!("high {high} mV has no band")),
+    }
+    if !sample.driven {
+        why.push("the wave was not driven before its call".to_string());
+    }
+    if sample.driven && !low_band(sample.low) {
+        why.push(why_low(sample.low));
+    }
+    match why.is_empty() {
+        true => format!(
+            "high {high} mV is {}, low {} mV",
+            letter(sample.verdict.band),
+            grouped(sample.low)
+        ),
+        false => why.join("; "),
+    }
+}
+
+fn band_detail(turn: &Turn) -> String {
+    let band = |sample: Sample| match sample.verdict.band {
+        None => "no band",
+        band => letter(band),
+    };
+    match (turn.previous, turn.sample) {
+        (Ok(previous), Some(this)) => format!("{}, then {}", band(previous), band(this)),
+        (_, Some(this)) => format!("this is {}", band(this)),
+        _ => String::new(),
+    }
+}
+
+fn pause_detail(turn: &Turn) -> String {
+    let (pause, now) = (turn.after.pause, turn.after.last);
+    match turn.after.opening {
+        None => "never opened".to_string(),
+        Some(opening) if now - opening >= pause => format!(
+            "over: opened at {opening}, {} ms ago; the pause is {} ms",
+            grouped(now - opening),
+            grouped(pause)
+        ),
+        Some(opening) => format!(
+            "{} ms left of {}, since the opening at {opening}",
+            grouped(pause - (now - opening)),
+            grouped(pause)
+        ),
+    }
+}
+
+/// What an open contactor waits for, in one sentence.
+pub fn waits_for(turn: &Turn) -> String {
+    let after = &turn.after;
+    let mut waits = Vec::new();
+    if after.any_fault() {
+        waits.push(format!(
+            "a clear call (fault latched: {})",
+            faults(&after.faults)
+        ));
+    } else if !driven(after.wave) {
+        waits.push(format!("a driven wave ({})", why_steady(after)));
+    }
+    match (after.previous, turn.told.closing) {
+        (Some(sample), false) if sample.proven => {
+            waits.push(format!("one more proven sample in {}", letter(sample.band)));
+        }
+        _ => waits.push("two proven samples in a row in one band".to_string()),
+    }
+    if let Some(opening) = after.opening {
+        let end = opening.saturating_add(after.pause);
+        if end > after.last {
+            waits.push(format!("the end of the pause at {end}"));
+        }
+    }
+    waits.join(", and ")
+}

@@ -1,0 +1,94 @@
+//! A log from a file or standard input, or what is wrong with it.
+
+use chuldariin_log::text::parse;
+use chuldariin_log::{Call, Entry, Line, Wrong};
+use std::fmt;
+use std::io::Read;
+
+/// So many wrong lines are shown.
+const SHOWN: usize = 10;
+
+/// A log that can be replayed: its first call is a begin.
+pub struct Log {
+    pub entries: Vec<Entry>,
+}
+
+/// Why there is no log to replay. Shown, it says what to do.
+#[derive(Debug)]
+pub enum Unfit {
+    /// The file, and what the system says of it.
+    Unread(String, std::io::Error),
+    /// Two bytes a character.
+    Utf16,
+    Lines(Vec<Wrong>),
+    /// No call at all.
+    Empty,
+    /// The line of the first call, which is no begin.
+    NoBegin(usize, &'static str),
+}
+
+impl fmt::Display for Unfit {
+    fn fmt(&self, f: &mut fmt::Formatter<'_>) -> fmt::Result {
+        match self {
+            Unfit::Unread(name, error) => write!(f, "{name}: can't be read: {error}"),
+            Unfit::Utf16 => write!(f, "the log is UTF-16; expected plain text (UTF-8): save it as that"),
+            Unfit::Lines(wrong) => {
+                let lines: Vec<String> = wrong.iter().take(SHOWN).map(Wrong::to_string).collect();
+                write!(f, "{}", lines.join("\n"))?;
+                match wrong.len().saturating_sub(SHOWN) {
+                    0 => Ok(()),
+                    more => write!(f, "\nand {more} more wrong lines"),
+                }
+            }
+            Unfit::Empty => write!(
+                f,
+                "the log has no call; expected begin TIME RATED PAUSE yes|no, and the calls after it, one a line"
+            ),
+            Unfit::NoBegin(line, word) => write!(
+                f,
+                "line {line}: the first call is {word}; expected begin TIME RATED PAUSE yes|no: a log is replayed from its begin, \
+                 since what went before is not known"
+            ),
+        }
+    }
+}
+
+impl std::error::Error for Unfit {}
+
+/// Reads a file, or standard input if its name is `-`.
+pub fn read(name: &str) -> Result<Log, Unfit> {
+    let text = match name {
+        "-" => {
+            let mut text = Vec::new();
+            std::io::stdin().read_to_end(&mut text).map(|_| text)
+        }
+        _ => std::fs::read(name),
+    };
+    let shown = if name == "-" { "standard input" } else { name };
+    Log::of(&text.map_err(|error| Unfit::Unread(shown.to_string(), error))?)
+}
+
+impl Log {
+    pub fn of(text: &[u8]) -> Result<Log, Unfit> {
+        if text.starts_with(b"\xff\xfe") || text.starts_with(b"\xfe\xff") {
+            return Err(Unfit::Utf16);
+        }
+        let log = Log {
+            entries: parse(text).map_err(Unfit::Lines)?,
+        };
+        let first = log.calls().next().map(|(line, call)| (line, call.word()));
+        match first {
+            None => Err(Unfit::Empty),
+            Some((_, "begin")) => Ok(log),
+            Some((line, word)) => Err(Unfit::NoBegin(line, word)),
+        }
+    }
+
+    /// Each call with its line.
+    pub fn calls(&self) -> impl Iterator<Item = (usize, &Call)> {
+        self.entries.iter().filter_map(|entry| match &entry.what {
+            Line::Call(call) => Some((entry.line, call)),
+            Line::Comment(_) => None,
+        })
+    }
+}

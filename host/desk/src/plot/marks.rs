@@ -1,0 +1,113 @@
+//! Closings and openings, and the list of causes.
+
+use super::scale::Scale;
+use super::svg::{Anchor, Svg};
+use super::track::{Kind, Mark, Track};
+use super::{AXIS, CAUSES, CURRENTS, CURRENTS_END, LEFT, LEVELS, LEVELS_END, STRIPS};
+use crate::words::grouped;
+
+/// Through so many marks the panels can still be seen.
+const FEW: usize = 80;
+/// Height of a line of the list, px, and the letters that it has room for.
+const LINE: f64 = 18.0;
+const LETTERS: usize = 128;
+/// So many openings are listed.
+const LISTED: usize = 40;
+
+/// Above the panels, and the panels that a mark goes through.
+const ABOVE: (f64, f64) = (LEVELS - 8.0, LEVELS);
+const THROUGH: [(f64, f64); 3] = [
+    (LEVELS - 8.0, LEVELS_END),
+    (CURRENTS, CURRENTS_END),
+    (STRIPS, AXIS),
+];
+
+/// A line for each, and the number of each opening above; of too many, only what stands above the panels.
+pub fn draw(svg: &mut Svg, track: &Track, scale: &Scale) {
+    let few = track.marks.len() <= FEW;
+    let parts: &[(f64, f64)] = if few { &THROUGH } else { &[ABOVE] };
+    let (mut drawn, mut labelled) = ([f64::MIN; 3], f64::MIN);
+    let mut number = 0;
+    for mark in &track.marks {
+        let x = scale.x(mark.at);
+        number += u64::from(mark.kind == Kind::Opened);
+        // Lines closer than half a pixel are one.
+        let last = &mut drawn[mark.kind as usize];
+        if x - *last >= 0.5 {
+            *last = x;
+            svg.told_lines(x, parts, class(mark.kind), &mark.words);
+        }
+        if mark.kind == Kind::Opened {
+            labelled = label(svg, x, number, labelled);
+        }
+    }
+}
+
+/// The number of an opening, where there is room; the end of the last one.
+fn label(svg: &mut Svg, x: f64, number: u64, labelled: f64) -> f64 {
+    let words = number.to_string();
+    let half_width = 9.0 + 3.5 * words.len().saturating_sub(2) as f64;
+    if x - half_width < labelled + 1.0 {
+        return labelled;
+    }
+    svg.pill(x, LEVELS - 17.0, half_width, 9.0, "red");
+    svg.text(x, LEVELS - 13.0, 11.0, Anchor::Middle, "white", &words);
+    x + half_width
+}
+
+fn class(kind: Kind) -> &'static str {
+    match kind {
+        Kind::Begun => "begun",
+        Kind::Closed => "closed",
+        Kind::Opened => "opened",
+    }
+}
+
+/// The openings with their causes; the end of the picture.
+pub fn list(svg: &mut Svg, track: &Track) -> f64 {
+    let opened = |mark: &&Mark| mark.kind == Kind::Opened;
+    let openings = track.marks.iter().filter(opened).enumerate();
+    let heading = match track.openings {
+        0 => "No opening".to_string(),
+        1 => "1 opening (red); closings are green".to_string(),
+        n => format!("{} openings (red); closings are green", grouped(n)),
+    };
+    svg.text(LEFT, CAUSES, 12.0, Anchor::Start, "title", &heading);
+    let mut y = CAUSES + LINE + 2.0;
+    for (place, mark) in openings.take(LISTED) {
+        let number = (place + 1).to_string();
+        let time = format!("{} ms", grouped(mark.time));
+        let words = mark.words.strip_prefix("OPENED: ").unwrap_or(&mark.words);
+        svg.text(LEFT + 16.0, y, 12.0, Anchor::End, "", &number);
+        svg.text(LEFT + 140.0, y, 12.0, Anchor::End, "", &time);
+        for line in wrapped(words) {
+            svg.text(LEFT + 152.0, y, 12.0, Anchor::Start, "", &line);
+            y += LINE;
+        }
+    }
+    match track.openings.saturating_sub(LISTED as u64) {
+        0 => y,
+        more => {
+            let words = format!("and {} more: replay the log to see them", grouped(more));
+            svg.text(LEFT + 152.0, y, 12.0, Anchor::Start, "faint", &words);
+            y + LINE
+        }
+    }
+}
+
+/// A text in lines that there is room for.
+fn wrapped(text: &str) -> Vec<String> {
+    let mut lines = vec![String::new()];
+    for word in text.split(' ') {
+        let last = lines.len() - 1;
+        if !lines[last].is_empty() && lines[last].len() + 1 + word.len() > LETTERS {
+            lines.push(word.to_string());
+        } else if lines[last].is_empty() {
+            lines[last].push_str(word);
+        } else {
+            lines[last].push(' ');
+            lines[last].push_str(word);
+        }
+    }
+    lines
+}

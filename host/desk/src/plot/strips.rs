@@ -1,0 +1,131 @@
+//! Contactor, state, fault and refusals: what holds from when to when.
+
+use super::scale::Scale;
+use super::svg::{Anchor, Svg};
+use super::track::{Run, Track};
+use super::{LEFT, RIGHT, STRIPS};
+use crate::table::state;
+use crate::words::fault;
+
+const HEIGHT: f64 = 18.0;
+const APART: f64 = 24.0;
+/// A letter of a label takes so much, px.
+const LETTER: f64 = 8.0;
+/// Narrower parts are drawn so wide, px.
+const NARROW: f64 = 0.6;
+
+/// A value from one place to another, px.
+struct Span<T> {
+    from: f64,
+    to: f64,
+    value: T,
+}
+
+/// How a value is shown.
+struct Part {
+    long: String,
+    short: String,
+    colour: &'static str,
+}
+
+impl Part {
+    fn new(long: &str, short: &str, colour: &'static str) -> Option<Part> {
+        Some(Part {
+            long: long.to_string(),
+            short: short.to_string(),
+            colour,
+        })
+    }
+
+    /// The longest label that there is room for.
+    fn label(&self, width: f64) -> Option<&String> {
+        let fits = |label: &&String| width > LETTER * label.len() as f64 + 2.0;
+        [&self.long, &self.short].into_iter().find(fits)
+    }
+}
+
+pub fn draw(svg: &mut Svg, track: &Track, scale: &Scale) {
+    let closed = spans(&track.closed, track, scale);
+    strip(svg, 0, "contactor", &closed, |closed| match closed {
+        true => Part::new("closed", "", "#2da44e"),
+        false => Part::new("open", "", "#eaeef2"),
+    });
+    let states = spans(&track.state, track, scale);
+    strip(svg, 1, "state", &states, |(letter, digit)| {
+        Part::new(&state(*letter, *digit), "", colour(*letter, *digit))
+    });
+    let faults = spans(&track.fault, track, scale);
+    strip(svg, 2, "fault", &faults, |number| match number {
+        0 => None,
+        _ => Part::new(fault(*number), &number.to_string(), "#ff8182"),
+    });
+    let refused: Vec<Span<()>> = track.refused.iter().map(|at| place(scale.x(*at))).collect();
+    strip(svg, 3, "refused", &refused, |_| {
+        Part::new("", "", "#9a6700")
+    });
+}
+
+/// A call, wide enough to be seen.
+fn place(x: f64) -> Span<()> {
+    Span {
+        from: x - 1.0,
+        to: x + 1.0,
+        value: (),
+    }
+}
+
+fn spans<T: Copy>(runs: &[Run<T>], track: &Track, scale: &Scale) -> Vec<Span<T>> {
+    let ends = runs.iter().skip(1).map(|run| run.0).chain([track.end]);
+    let span = |(run, end): (&Run<T>, u64)| Span {
+        from: scale.x(run.0),
+        to: scale.x(end),
+        value: run.1,
+    };
+    runs.iter().zip(ends).map(span).collect()
+}
+
+/// One strip: each value is a part of it, or nothing to show.
+fn strip<T>(
+    svg: &mut Svg,
+    row: usize,
+    name: &str,
+    spans: &[Span<T>],
+    shown: impl Fn(&T) -> Option<Part>,
+) {
+    let top = STRIPS + row as f64 * APART;
+    svg.text(8.0, top + 13.0, 12.0, Anchor::Start, "title", name);
+    let mut drawn = f64::MIN;
+    for span in spans {
+        let Some(part) = shown(&span.value) else {
+            continue;
+        };
+        let width = (span.to - span.from).max(NARROW);
+        // Of several that would stand in the same place the first is drawn.
+        if span.from + width <= drawn + NARROW / 2.0 {
+            continue;
+        }
+        drawn = span.from + width;
+        svg.fill(span.from, top, width, HEIGHT, part.colour);
+        if let Some(label) = part.label(width) {
+            let x = span.from + width / 2.0;
+            svg.text(x, top + 13.0, 11.0, Anchor::Middle, "", label);
+        }
+    }
+    svg.frame(LEFT, top, RIGHT - LEFT, HEIGHT);
+}
+
+/// Stronger under a driven wave.
+fn colour(letter: u8, digit: u8) -> &'static str {
+    match (letter, digit) {
+        (b'A', _) => "#d0d7de",
+        (b'B', 2) => "#fae17d",
+        (b'B', _) => "#fff8c5",
+        (b'C', 2) => "#aceebb",
+        (b'C', _) => "#dafbe1",
+        (b'D', 2) => "#9bd3f5",
+        (b'D', _) => "#ddf4ff",
+        (b'E', _) => "#ffc1c0",
+        (b'F', _) => "#ff8182",
+        _ => "#ffffff",
+    }
+}

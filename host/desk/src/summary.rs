@@ -1,0 +1,168 @@
+//! What a whole log comes to.
+
+use crate::turn::Turn;
+use crate::words::{grouped, CAUSES, NUMERALS, REFUSALS};
+use std::io::{self, Write};
+
+/// Two closings in a row of one list.
+#[derive(Clone, Copy)]
+struct Spacing {
+    first: u64,
+    second: u64,
+    pause: u64,
+}
+
+impl Spacing {
+    fn apart(&self) -> u64 {
+        self.second - self.first
+    }
+
+    /// How much longer than the pause.
+    fn spare(&self) -> i128 {
+        i128::from(self.apart()) - i128::from(self.pause)
+    }
+}
+
+/// Counts over a log.
+#[derive(Default)]
+pub struct Summary {
+    calls: u64,
+    begins: u64,
+    closings: u64,
+    openings: u64,
+    by_begin: u64,
+    several: u64,
+    causes: [u64; 5],
+    refusals: [u64; 8],
+    last_closing: Option<u64>,
+    shortest: Option<Spacing>,
+}
+
+impl Summary {
+    pub fn see(&mut self, turn: &Turn) {
+        self.calls += 1;
+        if !turn.accepted() {
+            self.refusals[turn.reply.refusal as usize - 1] += 1;
+            return;
+        }
+        if turn.begins() {
+            self.begins += 1;
+            self.by_begin += u64::from(turn.begun_while_closed());
+            self.last_closing = None;
+        }
+        if turn.told.opened {
+            self.openings += 1;
+            let held = turn.told.causes.map(u64::from);
+            self.several += u64::from(held.iter().sum::<u64>() > 1);
+            for (count, held) in self.causes.iter_mut().zip(held) {
+                *count += held;
+            }
+        }
+        if turn.told.closing {
+            self.closing(turn.after.last, turn.after.pause);
+        }
+    }
+
+    fn closing(&mut self, time: u64, pause: u64) {
+        self.closings += 1;
+        if let Some(first) = self.last_closing {
+            let spacing = Spacing {
+                first,
+                second: time,
+                pause,
+            };
+            self.shortest = match self.shortest {
+                Some(shortest) if shortest.spare() <= spacing.spare() => Some(shortest),
+                _ => Some(spacing),
+            };
+        }
+        self.last_closing = Some(time);
+    }
+
+    pub fn print(&self, out: &mut impl Write) -> io::Result<()> {
+        let refused: u64 = self.refusals.iter().sum();
+        let accepted = grouped(self.calls - refused);
+        let lists = match self.begins {
+            0 | 1 => String::new(),
+            begins => format!(", in {} lists (begins)", grouped(begins)),
+        };
+        writeln!(out, "\nsummary")?;
+        writeln!(
+            out,
+            "  calls     {}: {accepted} accepted, {} refused{lists}",
+            grouped(self.calls),
+            grouped(refused)
+        )?;
+        writeln!(out, "  closings  {}", grouped(self.closings))?;
+        self.print_openings(out)?;
+        self.print_refusals(out)?;
+        writeln!(out, "  spacing   {}", self.spacing())
+    }
+
+    fn print_openings(&self, out: &mut impl Write) -> io::Result<()> {
+        writeln!(
+            out,
+            "  openings  {}",
+            grouped(self.openings + self.by_begin)
+        )?;
+        for (cause, count) in self.causes.iter().enumerate() {
+            if *count > 0 {
+                let numeral = format!("({})", NUMERALS[cause]);
+                writeln!(
+                    out,
+                    "    {:>7}  {numeral:<5} {}",
+                    grouped(*count),
+                    CAUSES[cause]
+                )?;
+            }
+        }
+        if self.by_begin > 0 {
+            writeln!(out, "    {:>7}  by a new begin", grouped(self.by_begin))?;
+        }
+        if self.several > 0 {
+            let several = grouped(self.several);
+            writeln!(
+                out,
+                "    {several:>7}  of them had more than one cause, and count under each"
+            )?;
+        }
+        Ok(())
+    }
+
+    fn print_refusals(&self, out: &mut impl Write) -> io::Result<()> {
+        writeln!(
+            out,
+            "  refusals  {}",
+            grouped(self.refusals.iter().sum::<u64>())
+        )?;
+        for (place, count) in self.refusals.iter().enumerate() {
+            if *count > 0 {
+                let number = place + 1;
+                writeln!(
+                    out,
+                    "    {:>7}  {number:<5} {}",
+                    grouped(*count),
+                    REFUSALS[place]
+                )?;
+            }
+        }
+        Ok(())
+    }
+
+    /// The shortest time between two closings, against the pause.
+    fn spacing(&self) -> String {
+        match self.shortest {
+            None => "no two closings in one list".to_string(),
+            Some(spacing) => {
+                format!(
+                "shortest time between two closings {} ms (at {} and {}); the pause is {} ms: {}",
+                grouped(spacing.apart()),
+                spacing.first,
+                spacing.second,
+                grouped(spacing.pause),
+                if spacing.spare() >= 0 { "kept" } else { "NOT KEPT" }
+            )
+            }
+        }
+    }
+}

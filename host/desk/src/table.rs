@@ -1,0 +1,147 @@
+//! The replay as a table: one aligned line a call.
+
+use crate::causes::{Kind, Note};
+use crate::paint::{Colour, Paint};
+use crate::turn::Turn;
+use crate::words::{call, fault, letter, wave};
+use chuldariin_log::{Entry, Line};
+use chuldariin_model::Verdict;
+use std::io::{self, Write};
+
+/// Writes the lines of a replay.
+pub struct Table {
+    paint: Paint,
+    line_width: usize,
+    time_width: usize,
+}
+
+impl Table {
+    /// Columns wide enough for these lines.
+    pub fn for_log(entries: &[Entry], paint: Paint) -> Table {
+        let time = |entry: &Entry| match &entry.what {
+            Line::Call(call) => call.time(),
+            Line::Comment(_) => 0,
+        };
+        let last_line = entries.last().map_or(0, |entry| entry.line);
+        let last_time = entries.iter().map(time).max().unwrap_or(0);
+        Table {
+            paint,
+            line_width: last_line.to_string().len().max(4),
+            time_width: last_time.to_string().len().max(5),
+        }
+    }
+
+    pub fn heading(&self, out: &mut impl Write) -> io::Result<()> {
+        let text = format!(
+            "{:>line$}  {:>time$}  {:<23}  {:<10}  {:<5}  {:<16}  {:<9}  {:<16}  {:>8}  what happened",
+            "line", "ms", "call", "sample", "state", "wave", "contactor", "fault", "closings",
+            line = self.line_width,
+            time = self.time_width,
+        );
+        writeln!(out, "{}", self.paint.bold(&text))
+    }
+
+    pub fn comment(&self, out: &mut impl Write, text: &str) -> io::Result<()> {
+        writeln!(out, "{}", self.paint.dim(&format!("# {}", shown(text))))
+    }
+
+    pub fn row(&self, out: &mut impl Write, turn: &Turn, notes: &[Note]) -> io::Result<()> {
+        let reply = &turn.reply;
+        write!(
+            out,
+            "{:>line$}  {:>time$}  {:<23}  {:<10}  ",
+            turn.line,
+            turn.call.time(),
+            call(turn),
+            verdict(turn),
+            line = self.line_width,
+            time = self.time_width,
+        )?;
+        // A refused begin comes alone, and before the first begin nothing is commanded.
+        if reply.letter == 0 || !turn.begun && !turn.accepted() {
+            write!(
+                out,
+                "{:<5}  {:<16}  {:<9}  {:<16}  {:>8}",
+                "-", "-", "-", "-", "-"
+            )?;
+        } else {
+            let contactor = format!("{:<9}", if reply.closed { "closed" } else { "open" });
+            write!(
+                out,
+                "{:<5}  {:<16}  {}  {}  {:>8}",
+                state(reply.letter, reply.digit),
+                wave(reply.wave),
+                match reply.closed {
+                    true => self.paint.colour(Colour::Green, &contactor),
+                    false => contactor,
+                },
+                match reply.fault {
+                    0 => " ".repeat(16),
+                    _ => self
+                        .paint
+                        .colour(Colour::Red, &format!("{:<16}", fault(reply.fault))),
+                },
+                reply.closings,
+            )?;
+        }
+        for (place, note) in notes.iter().enumerate() {
+            let apart = if place == 0 { "  " } else { "; " };
+            write!(out, "{apart}{}", self.note(note))?;
+        }
+        writeln!(out)
+    }
+
+    fn note(&self, note: &Note) -> String {
+        match note.kind {
+            Kind::Closed => self
+                .paint
+                .colour(Colour::Green, &format!(">> {}", note.words)),
+            Kind::Opened => self
+                .paint
+                .colour(Colour::Red, &format!("<< {}", note.words)),
+            Kind::Refused => self.paint.colour(Colour::Yellow, &note.words),
+            Kind::Event => note.words.clone(),
+        }
+    }
+}
+
+/// Letter and digit: C2, U.
+pub fn state(letter: u8, digit: u8) -> String {
+    match digit {
+        0 => char::from(letter).to_string(),
+        _ => format!("{}{digit}", char::from(letter)),
+    }
+}
+
+/// What a sample shows: its band and a word. Unsound is said only where it counts, with the contactor closed.
+fn verdict(turn: &Turn) -> String {
+    let Some(sample) = turn.sample else {
+        return String::new();
+    };
+    let band = match sample.verdict.band {
+        None => "-",
+        band => letter(band),
+    };
+    let word = match sample.verdict {
+        Verdict { proven: true, .. } => "proven",
+        Verdict {
+            diode_bad: true, ..
+        } => "no diode",
+        Verdict { sound: true, .. } => "sound",
+        _ if turn.before.closed => "unsound",
+        _ => return band.to_string(),
+    };
+    format!("{band} {word}")
+}
+
+/// A comment with nothing in it that a terminal would obey.
+fn shown(text: &str) -> String {
+    let safe = |c: char| {
+        if c.is_control() && c != '\t' {
+            '\u{fffd}'
+        } else {
+            c
+        }
+    };
+    text.chars().map(safe).collect()
+}

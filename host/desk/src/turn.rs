@@ -1,0 +1,183 @@
+//! One call of a log, replayed through the archive and explained beside it.
+
+use crate::weigh::weigh;
+use chuldariin::raw;
+use chuldariin_log::answer::answer;
+use chuldariin_log::ask::ask;
+use chuldariin_log::meaning::meaning;
+use chuldariin_log::unlike::{unlike, unlike_kept};
+use chuldariin_log::{Call, Room, Window};
+use chuldariin_model::{driven, verdict, State, Told, Verdict, Weighed};
+use std::fmt;
+
+/// An accepted sample.
+#[derive(Clone, Copy, Debug, PartialEq, Eq)]
+pub struct Sample {
+    pub time: u64,
+    pub high: i32,
+    pub low: i32,
+    /// Was the wave driven before its call?
+    pub driven: bool,
+    pub verdict: Verdict,
+}
+
+/// Why there is no previous sample.
+#[derive(Clone, Copy, Debug, PartialEq, Eq)]
+pub enum Forgotten {
+    /// There was none since begin.
+    Never,
+    Opening(u64),
+    Fault(u64),
+}
+
+/// A call, what the archive told, and why.
+#[derive(Clone, Copy, Debug)]
+pub struct Turn<'a> {
+    /// Its line in the log.
+    pub line: usize,
+    pub call: &'a Call,
+    /// What the archive told.
+    pub reply: raw::Reply,
+    /// Had a begin been accepted before the call?
+    pub begun: bool,
+    /// What the archive's controller held before and after the call.
+    pub before: State,
+    pub after: State,
+    /// Causes, conditions and latches.
+    pub told: Told,
+    /// This call's sample.
+    pub sample: Option<Sample>,
+    /// The previous one, as the call found it.
+    pub previous: Result<Sample, Forgotten>,
+}
+
+impl Turn<'_> {
+    pub fn accepted(&self) -> bool {
+        self.reply.refusal == 0
+    }
+
+    /// A begin that was accepted.
+    pub fn begins(&self) -> bool {
+        self.accepted() && matches!(self.call, Call::Begin(_))
+    }
+
+    /// The contactor was closed, and a new begin has opened it.
+    pub fn begun_while_closed(&self) -> bool {
+        self.begins() && self.before.closed
+    }
+}
+
+/// The archive did what the explanation has no place for.
+#[derive(Debug)]
+pub struct Differs {
+    pub line: usize,
+    pub what: Vec<&'static str>,
+}
+
+impl fmt::Display for Differs {
+    fn fmt(&self, f: &mut fmt::Formatter<'_>) -> fmt::Result {
+        write!(
+            f,
+            "line {}: the archive's answer and its explanation differ in: {}. Nothing below this line can be trusted: \
+             please report it with this log",
+            self.line,
+            self.what.join(", ")
+        )
+    }
+}
+
+impl std::error::Error for Differs {}
+
+/// A post whose log is replayed.
+pub struct Post {
+    lent: raw::Controller,
+    state: State,
+    begun: bool,
+    previous: Result<Sample, Forgotten>,
+    room: Room,
+}
+
+impl Default for Post {
+    fn default() -> Post {
+        let lent = raw::Controller::ZEROED;
+        Post {
+            state: meaning(&lent),
+            lent,
+            begun: false,
+            previous: Err(Forgotten::Never),
+            room: Room::default(),
+        }
+    }
+}
+
+impl Post {
+    /// Puts the next call to the archive, and explains what it did.
+    pub fn turn<'a>(&mut self, line: usize, call: &'a Call) -> Result<Turn<'a>, Differs> {
+        let before = self.state;
+        let levels = self.levels(call);
+        let (state, told) = answer(&before, call, |_| levels, &mut self.room);
+        let reply = ask(&mut self.lent, call, &mut self.room);
+        self.state = meaning(&self.lent);
+        let mut what = unlike(&reply, &told.reply);
+        what.extend(unlike_kept(&self.state, &state));
+        if !what.is_empty() {
+            return Err(Differs { line, what });
+        }
+        let turn = Turn {
+            line,
+            call,
+            reply,
+            begun: self.begun,
+            before,
+            after: state,
+            told,
+            sample: sampled(call, &reply, levels, &before),
+            previous: self.previous,
+        };
+        self.begun |= turn.begins();
+        self.keep(&turn);
+        Ok(turn)
+    }
+
+    /// The levels of a sample; any refusal does for another call.
+    fn levels(&mut self, call: &Call) -> Weighed {
+        match call {
+            // Each half is its own support.
+            &Call::Sample(_, Window::Halves(one, other))
+                if crate::weigh::in_range(one) && crate::weigh::in_range(other) =>
+            {
+                Ok((one.max(other), one.min(other)))
+            }
+            Call::Sample(_, window) => weigh(window.readings(&mut self.room)),
+            _ => Err(0),
+        }
+    }
+
+    /// The previous sample of the next call.
+    fn keep(&mut self, turn: &Turn) {
+        if !turn.accepted() {
+            return;
+        }
+        let time = turn.after.last;
+        self.previous = match (turn.begins(), turn.sample) {
+            (true, _) => Err(Forgotten::Never),
+            (_, _) if turn.told.opened => Err(Forgotten::Opening(time)),
+            (_, _) if turn.told.latched.contains(&true) => Err(Forgotten::Fault(time)),
+            (_, Some(sample)) => Ok(sample),
+            (_, None) => self.previous,
+        };
+    }
+}
+
+fn sampled(call: &Call, reply: &raw::Reply, levels: Weighed, before: &State) -> Option<Sample> {
+    match (call, levels) {
+        (&Call::Sample(time, _), Ok((high, low))) if reply.refusal == 0 => Some(Sample {
+            time,
+            high,
+            low,
+            driven: driven(before.wave),
+            verdict: verdict(high, low, before.wave, before.ventilation),
+        }),
+        _ => None,
+    }
+}

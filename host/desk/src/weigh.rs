@@ -1,0 +1,38 @@
+//! Window to levels, by sorting: the model's way is obvious, and too slow for a million windows.
+
+use chuldariin_model::Weighed;
+
+/// How far a supporter may lie from a reading, mV.
+pub const NEAR: i32 = 200;
+/// So many supporters, itself among them, make a reading supported.
+pub const ENOUGH: usize = 8;
+/// The ends of a reading, mV.
+pub const READING: i32 = 15_000;
+
+/// High and low level, or refusal 4, 5 or 6.
+pub fn weigh(readings: &[i32]) -> Weighed {
+    if !(256..=1_024).contains(&readings.len()) {
+        return Err(4);
+    }
+    if !readings.iter().all(|&reading| in_range(reading)) {
+        return Err(5);
+    }
+    let mut sorted = readings.to_vec();
+    sorted.sort_unstable();
+    let supported = |reading: &&i32| {
+        let below = sorted.partition_point(|other| *other < **reading - NEAR);
+        let within = sorted.partition_point(|other| *other <= **reading + NEAR);
+        within - below >= ENOUGH
+    };
+    match (
+        sorted.iter().rev().find(supported),
+        sorted.iter().find(supported),
+    ) {
+        (Some(&high), Some(&low)) => Ok((high, low)),
+        _ => Err(6),
+    }
+}
+
+pub fn in_range(reading: i32) -> bool {
+    (-READING..=READING).contains(&reading)
+}

@@ -1,0 +1,195 @@
+//! Numbers, waves, faults and refusals in words.
+
+use crate::turn::Turn;
+use crate::weigh::{in_range, ENOUGH, NEAR};
+use chuldariin::{reading, Reading};
+use chuldariin_log::{Call, Room, Window};
+use chuldariin_model::{Band, State};
+
+/// Each fault in words, by its number less 1.
+pub const FAULTS: [&str; 5] = [
+    "no diode",
+    "over-current",
+    "residual current",
+    "welded contact",
+    "over-temperature",
+];
+
+/// Each cause of an opening in words, (i) to (v).
+pub const CAUSES: [&str; 5] = [
+    "two unsound samples in a row",
+    "no sound sample for more than 80 ms",
+    "state D in a post without ventilation",
+    "a stop 3 s old",
+    "a fault",
+];
+
+/// The number of each cause.
+pub const NUMERALS: [&str; 5] = ["i", "ii", "iii", "iv", "v"];
+
+/// Each refusal in words, by its number less 1.
+pub const REFUSALS: [&str; 8] = [
+    "settings out of range, or nothing has begun",
+    "the time is before the last accepted call",
+    "the time is above 1,000,000,000,000 ms",
+    "the window's length",
+    "a reading out of range",
+    "no supported reading",
+    "a limit or a measured current too large",
+    "a fault that is not for the host to tell",
+];
+
+/// A number with a comma before each three digits.
+pub fn grouped(number: impl Into<i128>) -> String {
+    let number = number.into();
+    let digits = number.unsigned_abs().to_string();
+    let mut text = String::from(if number < 0 { "-" } else { "" });
+    for (place, digit) in digits.chars().enumerate() {
+        if place > 0 && (digits.len() - place).is_multiple_of(3) {
+            text.push(',');
+        }
+        text.push(digit);
+    }
+    text
+}
+
+/// A current in amps: 31,980 mA is 31.98 A.
+pub fn amps(current: u32) -> String {
+    let text = format!("{}.{:03}", current / 1_000, current % 1_000);
+    // Every announced current is a whole number of 10 mA.
+    format!("{} A", text.strip_suffix('0').unwrap_or(&text))
+}
+
+/// A wave command: a duty with its current, or a steady level.
+pub fn wave(wave: u32) -> String {
+    match (wave, reading(wave)) {
+        (0, _) => "-12 V".to_string(),
+        (1_000, _) => "+12 V".to_string(),
+        (_, Ok(Reading::Current(current))) => {
+            format!("{}.{} % = {}", wave / 10, wave % 10, amps(current.0))
+        }
+        _ => format!("{}.{} %", wave / 10, wave % 10),
+    }
+}
+
+pub fn letter(band: Option<Band>) -> &'static str {
+    match band {
+        Some(Band::A) => "A",
+        Some(Band::B) => "B",
+        Some(Band::C) => "C",
+        Some(Band::D) => "D",
+        Some(Band::E) => "E",
+        None => "U",
+    }
+}
+
+/// The fault that a reply tells.
+pub fn fault(number: u8) -> &'static str {
+    match number {
+        1..=5 => FAULTS[number as usize - 1],
+        _ => "",
+    }
+}
+
+/// The latched faults in words; empty if there is none.
+pub fn faults(faults: &[bool; 5]) -> String {
+    let latched = FAULTS.iter().zip(faults).filter(|fault| *fault.1);
+    let words: Vec<&str> = latched.map(|fault| *fault.0).collect();
+    words.join(", ")
+}
+
+/// All that keeps a controller's wave from being driven.
+pub fn why_steady(state: &State) -> String {
+    let mut why = Vec::new();
+    if state.any_fault() {
+        why.push(format!("fault latched: {}", faults(&state.faults)));
+    }
+    if state.rated.min(state.limit) < 6_000 {
+        why.push(format!("limit {} mA is below 6,000", grouped(state.limit)));
+    }
+    match state.settled {
+        None => why.push("no state is settled (U)".to_string()),
+        Some(Band::A) => why.push("state A: no van is plugged in".to_string()),
+        Some(Band::D) if !state.ventilation => {
+            why.push("state D, and the post has no ventilation".to_string());
+        }
+        Some(Band::E) => why.push("state E".to_string()),
+        Some(_) => {}
+    }
+    why.join(", and ")
+}
+
+/// A call without its time.
+pub fn call(turn: &Turn) -> String {
+    match (turn.call, turn.sample) {
+        (Call::Begin(begin), _) => format!("begin {} mA", grouped(begin.rated)),
+        (Call::Sample(_, Window::Halves(high, low)), _) => {
+            format!("sample {} / {}", grouped(*high), grouped(*low))
+        }
+        (Call::Sample(..), Some(sample)) => {
+            format!("window {} / {}", grouped(sample.high), grouped(sample.low))
+        }
+        (Call::Sample(_, window), None) => format!("window of {}", window.length()),
+        (Call::Limit(_, current), _) => format!("limit {} mA", grouped(*current)),
+        (Call::Measure(_, current), _) => format!("measure {} mA", grouped(*current)),
+        (Call::Fault(_, kind), _) => format!("fault {}", grouped(*kind)),
+        (Call::Clear(_), _) => "clear".to_string(),
+        (Call::Tick(_), _) => "tick".to_string(),
+    }
+}
+
+/// Why a refused call was refused.
+pub fn refusal(turn: &Turn) -> String {
+    match (turn.reply.refusal, turn.call) {
+        (1, Call::Begin(begin)) => settings(begin.rated, begin.pause),
+        (1, _) => "no begin has been accepted yet".to_string(),
+        (2, _) => format!(
+            "time {} is before the last accepted call, at {}",
+            turn.call.time(),
+            turn.before.last
+        ),
+        (3, _) => "the time is above 1,000,000,000,000 ms".to_string(),
+        (4, Call::Sample(_, window)) => format!(
+            "{} readings, where 256 to 1,024 are allowed",
+            grouped(window.length() as u64)
+        ),
+        (5, Call::Sample(_, window)) => bad_reading(window),
+        (6, _) => {
+            format!("no reading has {ENOUGH} readings, itself counted, within {NEAR} mV")
+        }
+        (7, Call::Limit(..)) => "a limit is at most 80,000 mA".to_string(),
+        (7, _) => "a measured current is at most 200,000 mA".to_string(),
+        (8, _) => "the host may tell faults 3, 4 and 5".to_string(),
+        (number, _) => format!("refusal {number}"),
+    }
+}
+
+/// What is out of range at begin.
+fn settings(rated: u32, pause: u64) -> String {
+    let mut wrong = Vec::new();
+    if !(6_000..=80_000).contains(&rated) {
+        wrong.push(format!(
+            "rated {} mA is not 6,000 to 80,000",
+            grouped(rated)
+        ));
+    }
+    if pause != 0 && !(1_000..=60_000).contains(&pause) {
+        let pause = grouped(pause);
+        wrong.push(format!("pause {pause} ms is neither 0 nor 1,000 to 60,000"));
+    }
+    wrong.join(", ")
+}
+
+/// The first reading that is out of range.
+fn bad_reading(window: &Window) -> String {
+    let mut room = Room::default();
+    let mut readings = window.readings(&mut room).iter().enumerate();
+    match readings.find(|reading| !in_range(*reading.1)) {
+        Some((place, reading)) => format!(
+            "reading {} is {} mV, where -15,000 to 15,000 are allowed",
+            place + 1,
+            grouped(*reading)
+        ),
+        None => "a reading is out of range".to_string(),
+    }
+}

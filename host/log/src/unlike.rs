@@ -1,0 +1,46 @@
+//! Where the archive and the model part.
+
+use chuldariin::raw;
+use chuldariin_model::{Reply, State};
+
+/// The parts in which two replies differ. The fault must be one that may be told.
+pub fn unlike(said: &raw::Reply, told: &Reply) -> Vec<&'static str> {
+    let parts = [
+        ("refusal", said.refusal == told.refusal),
+        ("letter", said.letter == told.letter),
+        ("digit", said.digit == told.digit),
+        ("wave", said.wave == told.wave),
+        ("contactor", said.closed == told.closed),
+        ("fault", told.may_tell(said.fault.into())),
+        ("closings", said.closings == told.closings),
+    ];
+    let unlike = parts.iter().filter(|part| !part.1);
+    unlike.map(|part| part.0).collect()
+}
+
+/// The parts in which two controllers differ.
+pub fn unlike_kept(archive: &State, model: &State) -> Vec<&'static str> {
+    if archive == model {
+        return Vec::new();
+    }
+    let parts = [
+        ("kept rated", archive.rated == model.rated),
+        ("kept pause", archive.pause == model.pause),
+        ("kept ventilation", archive.ventilation == model.ventilation),
+        ("kept limit", archive.limit == model.limit),
+        ("kept wave", archive.wave == model.wave),
+        ("kept contactor", archive.closed == model.closed),
+        ("kept settled state", archive.settled == model.settled),
+        ("kept faults", archive.faults == model.faults),
+        ("kept last time", archive.last == model.last),
+        ("kept sound sample", archive.sound == model.sound),
+        ("kept opening", archive.opening == model.opening),
+        ("kept over-run", archive.overrun == model.overrun),
+        ("kept stop", archive.stop == model.stop),
+        ("kept previous sample", archive.previous == model.previous),
+        ("kept closings", archive.closings == model.closings),
+        ("controller", false),
+    ];
+    let unlike = parts.iter().filter(|part| !part.1);
+    unlike.map(|part| part.0).collect()
+}
