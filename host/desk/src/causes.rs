@@ -68,35 +68,68 @@ fn begun(turn: &Turn) -> Vec<Note> {
     notes
 }
 
-/// The faults that this call latched, or was told again.
+/// Faults 1 and 2, which the controller finds itself, and a fault that is told again.
 fn latched(turn: &Turn, notes: &mut Vec<Note>) {
     for (place, name) in FAULTS.iter().enumerate() {
-        if turn.told.latched[place] {
-            let why = match (place, turn.sample, turn.previous) {
-                (0, Some(this), Ok(previous)) => {
-                    format!(
-                        ": {}",
-                        of_both(&previous, &this, |sample| why_low(sample.low))
-                    )
-                }
-                (1, _, _) => format!(": the over-run began {}", ago(turn.before.overrun, turn)),
-                _ if turn.before.faults[place] => " again".to_string(),
-                _ => String::new(),
-            };
-            notes.push(note(
-                Kind::Event,
-                format!("fault {} ({name}){why}", place + 1),
-            ));
+        let why = match (place, turn.sample, turn.previous) {
+            _ if !turn.told.latched[place] => continue,
+            (0, Some(this), Ok(previous)) => both_off(&previous, &this, low_off),
+            (1, _, _) => format!("the over-run began {}", ago(turn.before.overrun, turn)),
+            _ if turn.before.faults[place] => "told again".to_string(),
+            _ => continue,
+        };
+        // A bad diode is unsound too, and then its figures are told already.
+        if !notes.iter().any(|note| note.words.contains(&why)) {
+            let words = format!("fault {} ({name}): {why}", place + 1);
+            notes.push(note(Kind::Event, words));
         }
     }
 }
 
-/// What is said of two samples, once if it is the same.
-fn of_both(previous: &Sample, this: &Sample, why: impl Fn(&Sample) -> String) -> String {
-    let (one, other) = (why(previous), why(this));
-    match one == other {
-        true => format!("{one} at {} and {}", previous.time, this.time),
-        false => format!("{one} at {}, {other} at {}", previous.time, this.time),
+/// A level that is not where a rule wants it.
+struct Off {
+    name: &'static str,
+    level: i32,
+    rule: &'static str,
+}
+
+/// Why a sample has no diode: its low level.
+fn low_off(sample: &Sample) -> Off {
+    Off {
+        name: "low",
+        level: sample.low,
+        rule: "outside -13,000 to -11,000",
+    }
+}
+
+/// Why a sample is not sound: its high level, else its low one.
+fn unsound(sample: &Sample) -> Off {
+    match sample.high {
+        1_501..7_500 => low_off(sample),
+        level => Off {
+            name: "high",
+            level,
+            rule: "not between 1,500 and 7,500",
+        },
+    }
+}
+
+/// What is off in two samples.
+fn both_off(previous: &Sample, this: &Sample, off: fn(&Sample) -> Off) -> String {
+    let (one, other) = (off(previous), off(this));
+    let first = format!(
+        "{} {} mV at {}",
+        one.name,
+        grouped(one.level),
+        previous.time
+    );
+    let second = format!("{} mV at {}", grouped(other.level), this.time);
+    match one.name == other.name {
+        true => format!("{first} and {second} are {}", one.rule),
+        false => format!(
+            "{first} is {}, {} {second} is {}",
+            one.rule, other.name, other.rule
+        ),
     }
 }
 
@@ -121,7 +154,7 @@ pub fn because(turn: &Turn, cause: usize) -> String {
     match (cause, turn.sample, turn.previous) {
         (0, Some(this), Ok(previous)) => format!(
             "two unsound samples in a row: {}",
-            of_both(&previous, &this, why_unsound)
+            both_off(&previous, &this, unsound)
         ),
         (1, _, _) => match turn.after.sound {
             Some(sound) => format!(
@@ -134,15 +167,6 @@ pub fn because(turn: &Turn, cause: usize) -> String {
         (3, _, _) => format!("the stop began {}", ago(turn.before.stop, turn)),
         (4, _, _) => format!("fault: {}", faults(&turn.after.faults)),
         _ => "two unsound samples in a row".to_string(),
-    }
-}
-
-/// Why a sample is not sound: its high level, else its low one.
-pub fn why_unsound(sample: &Sample) -> String {
-    let high = grouped(sample.high);
-    match sample.high {
-        1_501..7_500 => why_low(sample.low),
-        _ => format!("high {high} mV is not between 1,500 and 7,500"),
     }
 }
 

@@ -142,7 +142,7 @@ pub fn demo(folder: &str, paint: Paint, out: &mut impl Write) -> Result<(), Box<
     let (file, picture) = (format!("{folder}/day.log"), format!("{folder}/day.svg"));
     std::fs::create_dir_all(Path::new(folder)).map_err(|error| format!("{folder}: {error}"))?;
     write(&file, &text)?;
-    write(&picture, &plot(&log, "day.log")?)?;
+    write(&picture, &plot(&log, "day.log", (0, u64::MAX))?)?;
     writeln!(
         out,
         "A charging day, replayed through the proved controller. Lines where something changed:\n"

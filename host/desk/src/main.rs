@@ -1,10 +1,10 @@
 //! The command `chuldariin`.
 
 use chuldariin_desk::demo;
-use chuldariin_desk::input::{read, Log, Unfit};
+use chuldariin_desk::input::{read, Unfit};
 use chuldariin_desk::options::{command, Command, USAGE};
 use chuldariin_desk::paint::Paint;
-use chuldariin_desk::plot::plot;
+use chuldariin_desk::plot::{plot, NothingThere};
 use chuldariin_desk::progress::Progress;
 use chuldariin_desk::replay::replay;
 use chuldariin_desk::why::{why, TooEarly};
@@ -35,7 +35,7 @@ fn main() -> ExitCode {
         Err(error) if is_closed_pipe(&*error) => ExitCode::SUCCESS,
         Err(error) => {
             eprintln!("chuldariin: {error}");
-            let wrong = error.is::<Unfit>() || error.is::<TooEarly>();
+            let wrong = error.is::<Unfit>() || error.is::<TooEarly>() || error.is::<NothingThere>();
             ExitCode::from(if wrong { WRONG } else { FAILED })
         }
     }
@@ -63,17 +63,19 @@ fn run(command: Command) -> Result<(), Box<dyn Error>> {
             )?;
         }
         Command::Why { file, at } => why(&read(&file)?, at, paint, &mut out)?,
-        Command::Plot { file, out: to } => picture(&read(&file)?, &file, &to, &mut out)?,
+        Command::Plot {
+            file,
+            out: name,
+            from,
+            to,
+        } => {
+            let svg = plot(&read(&file)?, &file, (from, to))?;
+            match name.as_str() {
+                "-" => out.write_all(svg.as_bytes())?,
+                _ => demo::write(&name, &svg)?,
+            }
+        }
         Command::Demo { folder } => demo::demo(&folder, paint, &mut out)?,
     }
     Ok(out.flush()?)
-}
-
-fn picture(log: &Log, name: &str, to: &str, out: &mut impl Write) -> Result<(), Box<dyn Error>> {
-    let svg = plot(log, name)?;
-    match to {
-        "-" => out.write_all(svg.as_bytes())?,
-        _ => demo::write(to, &svg)?,
-    }
-    Ok(())
 }

@@ -8,6 +8,7 @@ chuldariin: replays a charging post's log through the proved controller
   chuldariin replay FILE [--only changes]   every call with its reply, each closing and opening with its cause
   chuldariin why FILE --at TIME             which closing conditions hold at TIME (ms), and which do not
   chuldariin plot FILE -o OUT.svg           a picture of it
+             [--from TIME] [--to TIME]      or of a part of it
   chuldariin demo [FOLDER]                  writes, replays and draws a charging day
 
 FILE is a log, one call a line, or - for standard input. docs/REPLAY.md explains it.
@@ -17,10 +18,23 @@ Exit status: 0 done, 1 it could not be finished, 2 the log or the command is wro
 #[derive(Clone, Debug, PartialEq, Eq)]
 pub enum Command {
     Help,
-    Replay { file: String, only: Only },
-    Why { file: String, at: u64 },
-    Plot { file: String, out: String },
-    Demo { folder: String },
+    Replay {
+        file: String,
+        only: Only,
+    },
+    Why {
+        file: String,
+        at: u64,
+    },
+    Plot {
+        file: String,
+        out: String,
+        from: u64,
+        to: u64,
+    },
+    Demo {
+        folder: String,
+    },
 }
 
 /// The command of these words, or what is wrong with them.
@@ -50,59 +64,96 @@ fn demo(folder: &str) -> Command {
 }
 
 fn replay(words: &[&str]) -> Result<Command, String> {
-    let (file, only) = file_and(words, "--only", "replay FILE [--only changes]")?;
-    let only = match only {
+    let words = Words::of(words, &["--only"], "replay FILE [--only changes]")?;
+    let only = match words.value("--only") {
         None => Only::All,
         Some("changes") => Only::Changes,
         Some(other) => return Err(format!("--only '{other}'; expected --only changes")),
     };
-    Ok(Command::Replay { file, only })
+    Ok(Command::Replay {
+        file: words.file()?,
+        only,
+    })
 }
 
 fn why(words: &[&str]) -> Result<Command, String> {
-    const FORM: &str = "why FILE --at TIME";
-    let (file, at) = file_and(words, "--at", FORM)?;
-    let at = at.ok_or_else(|| format!("--at is missing; expected {FORM}"))?;
-    match at.parse() {
-        Ok(at) => Ok(Command::Why { file, at }),
-        Err(_) => Err(format!(
-            "--at '{at}' is no time; expected milliseconds in digits alone"
-        )),
-    }
+    let words = Words::of(words, &["--at"], "why FILE --at TIME")?;
+    Ok(Command::Why {
+        file: words.file()?,
+        at: words.time("--at")?.ok_or_else(|| words.missing("--at"))?,
+    })
 }
 
 fn plot(words: &[&str]) -> Result<Command, String> {
-    const FORM: &str = "plot FILE -o OUT.svg";
-    let (file, out) = file_and(words, "-o", FORM)?;
-    match out {
-        Some(out) => Ok(Command::Plot {
-            file,
-            out: out.to_string(),
-        }),
-        None => Err(format!("-o is missing; expected {FORM}")),
-    }
+    let form = "plot FILE -o OUT.svg [--from TIME] [--to TIME]";
+    let words = Words::of(words, &["-o", "--from", "--to"], form)?;
+    Ok(Command::Plot {
+        file: words.file()?,
+        out: words
+            .value("-o")
+            .ok_or_else(|| words.missing("-o"))?
+            .to_string(),
+        from: words.time("--from")?.unwrap_or(0),
+        to: words.time("--to")?.unwrap_or(u64::MAX),
+    })
 }
 
-/// A file, and the value of the only option there is, in any order.
-fn file_and<'a>(
-    words: &[&'a str],
-    option: &str,
-    form: &str,
-) -> Result<(String, Option<&'a str>), String> {
-    let (mut file, mut value) = (None, None);
-    let mut words = words.iter();
-    while let Some(&word) = words.next() {
-        if word == option && value.is_none() {
-            let next = words.next();
-            value = Some(*next.ok_or_else(|| format!("{option} wants a value; expected {form}"))?);
-        } else if file.is_none() && (word == "-" || !word.starts_with('-')) {
-            file = Some(word.to_string());
-        } else {
-            return Err(format!("'{word}' is not expected here; expected {form}"));
+/// A file and options, each with a value, in any order.
+struct Words<'a> {
+    form: &'static str,
+    file: Option<&'a str>,
+    options: Vec<(&'a str, &'a str)>,
+}
+
+impl<'a> Words<'a> {
+    fn of(words: &[&'a str], allowed: &[&str], form: &'static str) -> Result<Words<'a>, String> {
+        let mut found = Words {
+            form,
+            file: None,
+            options: Vec::new(),
+        };
+        let mut words = words.iter();
+        while let Some(&word) = words.next() {
+            if allowed.contains(&word) && found.value(word).is_none() {
+                let value = words.next();
+                let value =
+                    value.ok_or_else(|| format!("{word} wants a value; expected {form}"))?;
+                found.options.push((word, value));
+            } else if found.file.is_none() && (word == "-" || !word.starts_with('-')) {
+                found.file = Some(word);
+            } else {
+                return Err(format!("'{word}' is not expected here; expected {form}"));
+            }
         }
+        Ok(found)
     }
-    match file {
-        Some(file) => Ok((file, value)),
-        None => Err(format!("FILE is missing; expected {form}")),
+
+    fn missing(&self, name: &str) -> String {
+        format!("{name} is missing; expected {}", self.form)
+    }
+
+    fn file(&self) -> Result<String, String> {
+        self.file
+            .map(str::to_string)
+            .ok_or_else(|| self.missing("FILE"))
+    }
+
+    fn value(&self, name: &str) -> Option<&'a str> {
+        self.options
+            .iter()
+            .find(|option| option.0 == name)
+            .map(|option| option.1)
+    }
+
+    fn time(&self, name: &str) -> Result<Option<u64>, String> {
+        let Some(word) = self.value(name) else {
+            return Ok(None);
+        };
+        match word.parse() {
+            Ok(time) if !word.starts_with('+') => Ok(Some(time)),
+            _ => Err(format!(
+                "{name} '{word}' is no time; expected milliseconds in digits alone"
+            )),
+        }
     }
 }

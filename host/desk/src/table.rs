@@ -33,7 +33,7 @@ impl Table {
 
     pub fn heading(&self, out: &mut impl Write) -> io::Result<()> {
         let text = format!(
-            "{:>line$}  {:>time$}  {:<23}  {:<10}  {:<5}  {:<16}  {:<9}  {:<16}  {:>8}  what happened",
+            "{:>line$}  {:>time$}  {:<24}  {:<10}  {:<5}  {:<16}  {:<9}  {:<16}  {:>8}  what happened",
             "line", "ms", "call", "sample", "state", "wave", "contactor", "fault", "closings",
             line = self.line_width,
             time = self.time_width,
@@ -49,7 +49,7 @@ impl Table {
         let reply = &turn.reply;
         write!(
             out,
-            "{:>line$}  {:>time$}  {:<23}  {:<10}  ",
+            "{:>line$}  {:>time$}  {:<24}  {:<10}  ",
             turn.line,
             turn.call.time(),
             call(turn),

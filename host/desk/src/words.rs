@@ -53,6 +53,12 @@ pub fn grouped(number: impl Into<i128>) -> String {
     text
 }
 
+/// How many of something: 1 closing, 2 closings.
+pub fn counted(number: u64, name: &str) -> String {
+    let plural = if number == 1 { "" } else { "s" };
+    format!("{} {name}{plural}", grouped(number))
+}
+
 /// A current in amps: 31,980 mA is 31.98 A.
 pub fn amps(current: u32) -> String {
     let text = format!("{}.{:03}", current / 1_000, current % 1_000);
@@ -132,6 +138,7 @@ pub fn call(turn: &Turn) -> String {
         (Call::Sample(_, window), None) => format!("window of {}", window.length()),
         (Call::Limit(_, current), _) => format!("limit {} mA", grouped(*current)),
         (Call::Measure(_, current), _) => format!("measure {} mA", grouped(*current)),
+        (Call::Fault(_, kind @ 1..=5), _) => format!("fault {kind} {}", fault(*kind as u8)),
         (Call::Fault(_, kind), _) => format!("fault {}", grouped(*kind)),
         (Call::Clear(_), _) => "clear".to_string(),
         (Call::Tick(_), _) => "tick".to_string(),

@@ -58,7 +58,9 @@ fn lines(svg: &mut Svg, track: &Track, scale: &Scale) {
     svg.path(&thin(track.samples.iter().map(low)), "low");
     svg.path(&thin(track.samples.iter().map(high)), "high");
     if track.samples.len() <= FEW {
-        for (x, y) in track.samples.iter().map(high) {
+        for sample in &track.samples {
+            let ((x, y), (_, low)) = (high(sample), low(sample));
+            svg.circle(x, low, 1.8, "faint");
             svg.circle(x, y, 2.2, "dot");
         }
     }

@@ -4,7 +4,7 @@ use super::scale::Scale;
 use super::svg::{Anchor, Svg};
 use super::track::{Kind, Mark, Track};
 use super::{AXIS, CAUSES, CURRENTS, CURRENTS_END, LEFT, LEVELS, LEVELS_END, STRIPS};
-use crate::words::grouped;
+use crate::words::{counted, grouped};
 
 /// Through so many marks the panels can still be seen.
 const FEW: usize = 80;
@@ -69,8 +69,7 @@ pub fn list(svg: &mut Svg, track: &Track) -> f64 {
     let openings = track.marks.iter().filter(opened).enumerate();
     let heading = match track.openings {
         0 => "No opening".to_string(),
-        1 => "1 opening (red); closings are green".to_string(),
-        n => format!("{} openings (red); closings are green", grouped(n)),
+        openings => format!("{} (red); closings are green", counted(openings, "opening")),
     };
     svg.text(LEFT, CAUSES, 12.0, Anchor::Start, "title", &heading);
     let mut y = CAUSES + LINE + 2.0;

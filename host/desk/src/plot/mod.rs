@@ -21,9 +21,10 @@ mod thin;
 mod track;
 
 use crate::input::Log;
-use crate::words::grouped;
+use crate::words::{counted, grouped};
 use scale::Scale;
 use std::error::Error;
+use std::fmt;
 use svg::{Anchor, Svg};
 use track::Track;
 
@@ -45,9 +46,28 @@ const CAUSES: f64 = 716.0;
 const LEGEND: &str =
     "dark line: high level, grey: low level; a sound high level lies between the dotted lines";
 
-/// The picture of a log.
-pub fn plot(log: &Log, name: &str) -> Result<String, Box<dyn Error>> {
-    let track = Track::of(log)?;
+/// No call lies in the part that was asked for.
+#[derive(Debug)]
+pub struct NothingThere(u64, u64);
+
+impl fmt::Display for NothingThere {
+    fn fmt(&self, f: &mut fmt::Formatter<'_>) -> fmt::Result {
+        write!(
+            f,
+            "no accepted call is from {} to {}; expected times of the log",
+            self.0, self.1
+        )
+    }
+}
+
+impl Error for NothingThere {}
+
+/// The picture of a log, from one time to another.
+pub fn plot(log: &Log, name: &str, part: (u64, u64)) -> Result<String, Box<dyn Error>> {
+    let track = Track::of(log, part)?;
+    if track.calls == 0 {
+        return Err(NothingThere(part.0, part.1).into());
+    }
     let scale = Scale::of(&track);
     let mut svg = Svg::new();
     title(&mut svg, &track, name);
@@ -61,17 +81,19 @@ pub fn plot(log: &Log, name: &str) -> Result<String, Box<dyn Error>> {
 }
 
 fn title(svg: &mut Svg, track: &Track, name: &str) {
-    let lists = match track.begins {
+    let begins = match track.begins {
         0 | 1 => String::new(),
-        begins => format!(", {begins} begins"),
+        begins => format!("{begins} begins, "),
+    };
+    let times = match track.anew {
+        true => format!("{} ms in all", grouped(track.end)),
+        false => format!("{} to {} ms", grouped(track.first), grouped(track.last)),
     };
     let words = format!(
-        "{} calls{lists}, {} to {} ms: {} closings, {} openings, {} refused",
-        grouped(track.calls),
-        grouped(track.first),
-        grouped(track.last),
-        grouped(track.closings),
-        grouped(track.openings),
+        "{begins}{}, {times}: {}, {}, {} refused",
+        counted(track.calls, "call"),
+        counted(track.closings, "closing"),
+        counted(track.openings, "opening"),
         grouped(track.refused_calls),
     );
     svg.text(LEFT, 24.0, 16.0, Anchor::Start, "title", name);

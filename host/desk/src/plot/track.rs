@@ -3,8 +3,9 @@
 use crate::causes::notes;
 use crate::input::Log;
 use crate::turn::{Differs, Post, Turn};
-use chuldariin::{reading, Milliamps, Reading};
+use chuldariin::{raw, reading, Milliamps, Reading};
 use chuldariin_log::Call;
+use chuldariin_model::State;
 
 /// A value from a time on.
 pub type Run<T> = (u64, T);
@@ -26,7 +27,7 @@ pub struct Mark {
     pub words: String,
 }
 
-/// A log as it is drawn. Times are ms since the log's first begin.
+/// A log as it is drawn. Times are ms since its first begin, or since the start of the part that is drawn.
 #[derive(Default)]
 pub struct Track {
     pub calls: u64,
@@ -54,6 +55,10 @@ pub struct Track {
     pub marks: Vec<Mark>,
     /// The present list's begin: its own time, and where it is drawn.
     begin: (u64, u64),
+    /// The times that are drawn, whether the last accepted call is one of them, and what held before the first.
+    part: (u64, u64),
+    inside: bool,
+    held: Option<(State, raw::Reply)>,
 }
 
 /// Adds a value if it is another.
@@ -64,12 +69,13 @@ fn run<T: PartialEq>(runs: &mut Vec<Run<T>>, at: u64, value: T) {
 }
 
 impl Track {
-    pub fn of(log: &Log) -> Result<Track, Differs> {
+    /// The calls of a log from one time to another.
+    pub fn of(log: &Log, part: (u64, u64)) -> Result<Track, Differs> {
         let mut post = Post::default();
-        let mut track = Track::default();
-        track.first = log.calls().next().map_or(0, |(_, call)| call.time());
-        track.last = track.first;
-        track.begin = (track.first, 0);
+        let mut track = Track {
+            part,
+            ..Track::default()
+        };
         for (line, call) in log.calls() {
             track.see(&post.turn(line, call)?);
         }
@@ -77,27 +83,61 @@ impl Track {
     }
 
     fn see(&mut self, turn: &Turn) {
+        if turn.accepted() {
+            let time = turn.after.last;
+            self.inside = (self.part.0..=self.part.1).contains(&time);
+            if !self.inside {
+                self.outside(turn);
+            }
+        }
+        if !self.inside {
+            return;
+        }
         self.calls += 1;
         if !turn.accepted() {
             self.refused_calls += 1;
             // Its own time says nothing of when it was made.
-            run(&mut self.refused, self.end);
+            self.refused.push(self.end);
             return;
         }
-        if turn.begins() {
-            self.begin_list(turn.after.last);
-        }
-        let at = turn.after.last - self.begin.0 + self.begin.1;
-        self.end = at;
-        self.last = turn.after.last;
-        self.values(at, turn);
-        self.mark(at, turn);
+        self.accepted(turn);
+    }
 
-        fn run(refused: &mut Vec<u64>, at: u64) {
-            if refused.last() != Some(&at) {
-                refused.push(at);
+    /// What held before the part that is drawn holds at its start.
+    fn outside(&mut self, turn: &Turn) {
+        if self.calls == 0 {
+            self.held = Some((turn.after, turn.reply));
+        } else if turn.after.last > self.part.1 && self.begin.0 <= self.part.1 {
+            self.end = self.end.max(self.part.1 - self.begin.0 + self.begin.1);
+        }
+    }
+
+    fn accepted(&mut self, turn: &Turn) {
+        let time = turn.after.last;
+        if self.calls == 1 {
+            self.first = if self.held.is_some() {
+                self.part.0
+            } else {
+                time
+            };
+            (self.last, self.begin) = (self.first, (self.first, 0));
+            if let Some((state, reply)) = self.held {
+                self.values(0, &state, &reply);
             }
         }
+        if turn.begins() {
+            self.begin_list(time);
+        }
+        let at = time - self.begin.0 + self.begin.1;
+        (self.end, self.last) = (at, time);
+        if let Some(sample) = turn.sample {
+            self.samples.push((at, sample.high, sample.low));
+        }
+        if let Call::Measure(_, current) = turn.call {
+            self.measured.push((at, *current));
+        }
+        self.values(at, &turn.after, &turn.reply);
+        self.mark(at, turn);
     }
 
     /// A list that starts at an earlier time is drawn after the one before it.
@@ -109,20 +149,13 @@ impl Track {
         }
     }
 
-    fn values(&mut self, at: u64, turn: &Turn) {
-        let (after, reply) = (&turn.after, &turn.reply);
-        if let Some(sample) = turn.sample {
-            self.samples.push((at, sample.high, sample.low));
-        }
-        if let Call::Measure(_, current) = turn.call {
-            self.measured.push((at, *current));
-        }
-        let announced = match reading(after.wave) {
+    fn values(&mut self, at: u64, state: &State, reply: &raw::Reply) {
+        let announced = match reading(reply.wave) {
             Ok(Reading::Current(Milliamps(current))) => current,
             _ => 0,
         };
-        run(&mut self.limit, at, after.limit);
-        run(&mut self.rated, at, after.rated);
+        run(&mut self.limit, at, state.limit);
+        run(&mut self.rated, at, state.rated);
         run(&mut self.announced, at, announced);
         run(&mut self.closed, at, reply.closed);
         run(&mut self.state, at, (reply.letter, reply.digit));

@@ -1,0 +1,316 @@
+//! The command as a user has it: answers, exit statuses, and what it says of logs that are wrong.
+
+use std::fs::{self, File};
+use std::io::{Read, Write};
+use std::path::PathBuf;
+use std::process::{Command, Output, Stdio};
+
+const CHARGE: &str = "\
+begin 0 32000 3000 no
+limit 0 32000
+sample 10 9000 9000
+sample 20 9000 9000
+sample 30 6000 -12000
+sample 40 6000 -12000
+";
+
+fn tool() -> Command {
+    Command::new(env!("CARGO_BIN_EXE_chuldariin-desk"))
+}
+
+/// Runs the command with this standard input.
+fn run(words: &[&str], input: &[u8]) -> Output {
+    let mut tool = tool();
+    tool.args(words);
+    tool.stdin(Stdio::piped())
+        .stdout(Stdio::piped())
+        .stderr(Stdio::piped());
+    let mut child = tool.spawn().expect("the tool starts");
+    let mut stdin = child.stdin.take().expect("a pipe");
+    // A command that does not read its input may be gone by now.
+    let _ = stdin.write_all(input);
+    drop(stdin);
+    child.wait_with_output().expect("the tool ends")
+}
+
+fn replay(log: &[u8]) -> Output {
+    run(&["replay", "-"], log)
+}
+
+fn text(bytes: &[u8]) -> String {
+    String::from_utf8(bytes.to_vec()).expect("UTF-8")
+}
+
+/// A file of this test alone.
+fn file(name: &str, content: &[u8]) -> PathBuf {
+    let folder = std::env::temp_dir().join(format!("chuldariin-desk-{}", std::process::id()));
+    fs::create_dir_all(&folder).expect("a folder");
+    let path = folder.join(name);
+    fs::write(&path, content).expect("a file");
+    path
+}
+
+/// Refused whole: status 2, nothing on standard output, and this on standard error.
+fn wrong(output: &Output, said: &str) {
+    assert_eq!(output.status.code(), Some(2), "{}", text(&output.stderr));
+    assert_eq!(text(&output.stdout), "");
+    assert_eq!(text(&output.stderr), format!("chuldariin: {said}\n"));
+}
+
+#[test]
+fn a_log_is_replayed_from_a_file_and_from_standard_input() {
+    let path = file("charge.log", CHARGE.as_bytes());
+    let by_name = run(&["replay", path.to_str().expect("a name")], b"");
+    let by_input = replay(CHARGE.as_bytes());
+    assert_eq!(by_name.status.code(), Some(0));
+    assert_eq!(by_name.stdout, by_input.stdout);
+    let shown = text(&by_input.stdout);
+    let closing = shown.lines().nth(6).expect("a line for each call");
+    assert!(closing.starts_with(
+        "   6     40  sample 6,000 / -12,000    C proven    C2     53.3 % = 31.98 A  closed"
+    ));
+    assert!(closing.ends_with(">> CLOSED: proven in C at 30 and 40; never opened before"));
+    assert!(!shown.contains('\u{1b}'), "colours are for terminals");
+    assert_eq!(text(&by_input.stderr), "");
+}
+
+#[test]
+fn other_line_ends_give_the_same_answer() {
+    let marked = format!("\u{feff}{}", CHARGE.replace('\n', "\r\n"));
+    assert_eq!(
+        replay(marked.as_bytes()).stdout,
+        replay(CHARGE.as_bytes()).stdout
+    );
+    let no_last_end = CHARGE.trim_end();
+    assert_eq!(
+        replay(no_last_end.as_bytes()).stdout,
+        replay(CHARGE.as_bytes()).stdout
+    );
+}
+
+#[test]
+fn a_file_that_is_not_there() {
+    let output = run(&["replay", "nowhere.log"], b"");
+    wrong(
+        &output,
+        "nowhere.log: can't be read: No such file or directory (os error 2)",
+    );
+    let output = run(&["replay", "."], b"");
+    wrong(&output, ".: can't be read: Is a directory (os error 21)");
+}
+
+#[test]
+fn a_log_without_calls() {
+    let said = "the log has no call; expected begin TIME RATED PAUSE yes|no, and the calls after it, one a line";
+    for log in ["", "\n\n", "# nothing\r\n", "   \t\n"] {
+        wrong(&replay(log.as_bytes()), said);
+    }
+}
+
+#[test]
+fn a_log_without_begin() {
+    let said = "line 2: the first call is tick; expected begin TIME RATED PAUSE yes|no: a log is replayed from its begin, \
+                since what went before is not known";
+    wrong(&replay(b"# the end of a log\ntick 10\ntick 20\n"), said);
+    wrong(
+        &replay(b"# the end of a log\ntick 10\nbegin 20 32000 0 no\n"),
+        said,
+    );
+}
+
+#[test]
+fn wrong_lines() {
+    let log = format!("{CHARGE}sample 50 6000\ntick 60\n");
+    wrong(
+        &replay(log.as_bytes()),
+        "line 7: LOW is missing; expected sample TIME HIGH LOW",
+    );
+    let log = format!("{CHARGE}limit 50 4294967296\n");
+    let said =
+        "line 7: MA '4294967296' is too large: the most is 4294967295; expected limit TIME MA";
+    wrong(&replay(log.as_bytes()), said);
+    let output = replay(&b"step 1\n".repeat(12));
+    let said = text(&output.stderr);
+    assert_eq!(output.status.code(), Some(2));
+    assert_eq!(said.lines().count(), 11);
+    assert!(said.ends_with("\nand 2 more wrong lines\n"));
+}
+
+#[test]
+fn bytes_that_are_no_text() {
+    wrong(
+        &replay(b"\xff\xfet\0i\0"),
+        "the log is UTF-16; expected plain text (UTF-8): save it as that",
+    );
+    let said = "line 1: byte 6 (0xff) is not of any text; expected plain text (UTF-8)";
+    wrong(&replay(b"tick \xff\n"), said);
+}
+
+#[test]
+fn commands_that_are_wrong() {
+    for (words, said) in [
+        (
+            &["step"][..],
+            "'step' is no command; expected replay, why, plot or demo",
+        ),
+        (
+            &["replay"],
+            "FILE is missing; expected replay FILE [--only changes]",
+        ),
+        (
+            &["replay", "a", "b"],
+            "'b' is not expected here; expected replay FILE [--only changes]",
+        ),
+        (
+            &["replay", "a", "--only"],
+            "--only wants a value; expected replay FILE [--only changes]",
+        ),
+        (
+            &["replay", "a", "--only", "all"],
+            "--only 'all'; expected --only changes",
+        ),
+        (
+            &["why", "a"],
+            "--at is missing; expected why FILE --at TIME",
+        ),
+        (
+            &["why", "a", "--at", "x"],
+            "--at 'x' is no time; expected milliseconds in digits alone",
+        ),
+        (
+            &["plot", "a"],
+            "-o is missing; expected plot FILE -o OUT.svg [--from TIME] [--to TIME]",
+        ),
+        (
+            &["demo", "a", "b"],
+            "demo takes one FOLDER to write into, or none",
+        ),
+    ] {
+        let output = run(words, b"");
+        assert_eq!(output.status.code(), Some(2), "{words:?}");
+        let first = text(&output.stderr);
+        assert_eq!(
+            first.lines().next(),
+            Some(format!("chuldariin: {said}").as_str())
+        );
+    }
+    for words in [&[][..], &["help"], &["--help"], &["replay", "--help"]] {
+        let output = run(words, b"");
+        assert_eq!(output.status.code(), Some(0));
+        assert!(text(&output.stdout).contains("chuldariin replay FILE"));
+    }
+}
+
+#[test]
+fn only_changes() {
+    let log = format!("{CHARGE}# on\nsample 50 6000 -12000\ntick 49\ntick 48\ntick 60\nsample 70 6000 -12000\nlimit 80 0\nlimit 90 0\n");
+    let output = run(&["replay", "-", "--only", "changes"], log.as_bytes());
+    let shown = text(&output.stdout);
+    let table = shown.split("\n\nsummary").next().expect("a table");
+    let lines: Vec<&str> = table.lines().skip(1).map(|line| line[..4].trim()).collect();
+    // Begin, B2, closing, the comment, the first refused, accepted again, the stop.
+    assert_eq!(lines, ["1", "4", "6", "# on", "9", "11", "13"]);
+    assert!(table.contains("accepted again, after 2 refused"));
+}
+
+#[test]
+fn why_an_open_contactor_is_open() {
+    let log = format!(
+        "{CHARGE}sample 50 6000 -10900\ntick 121\nsample 130 6000 -10900\nsample 140 6000 -12000\n"
+    );
+    let why = |at: &str| text(&run(&["why", "-", "--at", at], log.as_bytes()).stdout);
+    let told = why("140");
+    for line in [
+        "  wave driven              yes  53.3 % = 31.98 A",
+        "  this sample proven       yes  high 6,000 mV is C, low -12,000 mV",
+        "  previous sample proven   no   at 130: low -10,900 mV is outside -13,000 to -11,000",
+        "  both in one band         yes  C, then C",
+        "  pause                    no   2,981 ms left of 3,000, since the opening at 121",
+        "The contactor waits for one more proven sample in C, and the end of the pause at 3121.",
+    ] {
+        assert!(told.lines().any(|told| told == line), "{line}\n{told}");
+    }
+    assert!(why("45").contains("The contactor is closed since line 6, at 40."));
+    assert!(why("121").contains("OPENED: 81 ms since the last sound sample (ii)"));
+    assert!(why("131").contains("it was forgotten by the opening at 121"));
+    let early = run(&["why", "-", "--at", "5"], b"begin 10 32000 0 no\n");
+    wrong(
+        &early,
+        "no call up to 5 was accepted: the log starts at 10; expected a later time",
+    );
+}
+
+#[test]
+fn a_refused_call_is_no_answer_to_why() {
+    let log = "begin 0 32000 0 no\ntick 20\nlimit 25 80001\nlimit 26 80001\ntick 50\ntick 30\n";
+    let told = text(&run(&["why", "-", "--at", "40"], log.as_bytes()).stdout);
+    assert!(
+        told.starts_with("at 40: the last accepted call is line 2, tick at 20\nafter it 2 refused"),
+        "{told}"
+    );
+    let told = text(&run(&["why", "-", "--at", "60"], log.as_bytes()).stdout);
+    assert!(
+        told.starts_with("at 60: the last accepted call is line 5, tick at 50\nafter it 1 refused"),
+        "{told}"
+    );
+}
+
+#[test]
+fn whoever_has_read_enough_may_go() {
+    let log = file(
+        "long.log",
+        format!("{CHARGE}{}", "tick 50\n".repeat(100_000)).as_bytes(),
+    );
+    let mut tool = tool();
+    tool.args(["replay", log.to_str().expect("a name")]);
+    let mut child = tool
+        .stdout(Stdio::piped())
+        .stderr(Stdio::piped())
+        .spawn()
+        .expect("the tool starts");
+    let mut first = [0; 10];
+    let mut stdout = child.stdout.take().expect("a pipe");
+    stdout.read_exact(&mut first).expect("some output");
+    drop(stdout);
+    let output = child.wait_with_output().expect("the tool ends");
+    assert_eq!(
+        (output.status.code(), text(&output.stderr)),
+        (Some(0), String::new())
+    );
+}
+
+#[test]
+fn a_full_disk_is_told() {
+    let full = File::options()
+        .write(true)
+        .open("/dev/full")
+        .expect("/dev/full");
+    let log = file("full.log", CHARGE.as_bytes());
+    let mut tool = tool();
+    tool.args(["replay", log.to_str().expect("a name")])
+        .stdout(full);
+    let output = tool.stderr(Stdio::piped()).output().expect("the tool ends");
+    assert_eq!(output.status.code(), Some(1));
+    assert!(
+        text(&output.stderr).starts_with("chuldariin: No space left"),
+        "{}",
+        text(&output.stderr)
+    );
+}
+
+#[test]
+fn the_demo_writes_what_it_replays() {
+    let folder = file("day", b"").with_file_name("demo");
+    let name = folder.to_str().expect("a name");
+    let output = run(&["demo", name], b"");
+    assert_eq!(output.status.code(), Some(0), "{}", text(&output.stderr));
+    let log = folder.join("day.log");
+    let again = run(
+        &["replay", log.to_str().expect("a name"), "--only", "changes"],
+        b"",
+    );
+    assert!(text(&output.stdout).contains(&text(&again.stdout)));
+    assert!(fs::read_to_string(folder.join("day.svg"))
+        .expect("a picture")
+        .ends_with("</svg>\n"));
+}

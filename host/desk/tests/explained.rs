@@ -1,0 +1,241 @@
+//! The explanations, held against the archive over the lists of the trials.
+//!
+//! Each opening is put to the archive again with some of its explained causes taken away: the contactor opens as long as one
+//! is left, and stays closed with the last of them gone. So the causes are those that opened it, and no others. In the same way
+//! a sample that does not close is put again with some of its missing conditions granted: it closes once all of them are.
+
+use chuldariin::raw;
+use chuldariin_desk::causes::{because, notes, Kind};
+use chuldariin_desk::turn::{Post, Turn};
+use chuldariin_log::ask::ask;
+use chuldariin_log::{Call, Room};
+use chuldariin_trials::author::Author;
+use chuldariin_trials::dice::Dice;
+use chuldariin_trials::styles::{list, seeds, STYLES};
+use chuldariin_trials::trial::Trial;
+use std::collections::BTreeMap;
+
+/// How often each set of causes opened, and each set of missing conditions kept open.
+#[derive(Default)]
+struct Counts {
+    closings: u64,
+    openings: BTreeMap<Vec<usize>, u64>,
+    missing: BTreeMap<Vec<usize>, u64>,
+}
+
+#[test]
+fn every_opening_has_its_causes_and_every_closing_misses_nothing() {
+    let mut counts = Counts::default();
+    for style in 0..STYLES.len() {
+        for seed in seeds(style) {
+            replay(&calls(style, seed), &mut counts);
+        }
+    }
+    println!("closings {}", counts.closings);
+    println!("openings by causes {:?}", counts.openings);
+    println!("open for want of {:?}", counts.missing);
+    assert!(counts.closings > 5_000);
+    // The sets that the lists are known to reach, and each condition that can be missing alone.
+    assert_eq!(counts.openings.len(), 16);
+    for alone in [vec![PREVIOUS], vec![BAND], vec![PAUSE]] {
+        assert!(counts.missing.contains_key(&alone), "{alone:?}");
+    }
+}
+
+/// The calls of a list of the trials.
+fn calls(style: usize, seed: u64) -> Vec<Call> {
+    let mut author = Author {
+        dice: Dice::new(seed),
+        trial: Trial::from(raw::Controller::ZEROED),
+    };
+    let played = list(&mut author, STYLES[style].2);
+    assert!(played.is_ok(), "the archive and the model differ");
+    author.trial.calls().to_vec()
+}
+
+fn replay(calls: &[Call], counts: &mut Counts) {
+    let mut post = Post::default();
+    let mut lent = raw::Controller::ZEROED;
+    let mut told_closed = false;
+    for (place, call) in calls.iter().enumerate() {
+        let before = lent;
+        let reply = ask(&mut lent, call, &mut Room::default());
+        let turn = post.turn(place + 1, call).expect("the explanation holds");
+        let begins = matches!(call, Call::Begin(_));
+        assert_eq!(turn.reply, reply);
+        assert_eq!(turn.previous.ok().map(|s| s.verdict), turn.before.previous);
+        if reply.refusal == 0 && !begins {
+            assert_eq!(turn.told.opened, told_closed && !reply.closed);
+            assert_eq!(turn.told.closing, !told_closed && reply.closed);
+            judged(&turn, before, counts);
+        } else {
+            assert!(!turn.told.opened && !turn.told.closing);
+        }
+        if reply.refusal == 0 {
+            told_closed = reply.closed;
+        }
+    }
+}
+
+fn judged(turn: &Turn, before: raw::Controller, counts: &mut Counts) {
+    let causes: Vec<usize> = (0..5).filter(|&cause| turn.told.causes[cause]).collect();
+    if turn.told.opened {
+        causes_alone_open(turn, before, &causes);
+        told_in_words(turn, &causes);
+        *counts.openings.entry(causes).or_default() += 1;
+    } else {
+        assert!(causes.is_empty());
+    }
+    if turn.told.closing {
+        assert!(turn.told.conditions.all());
+        counts.closings += 1;
+    } else if !before.closed && turn.sample.is_some() {
+        let missing = missing(turn);
+        assert!(!missing.is_empty());
+        conditions_alone_close(turn, before, &missing);
+        *counts.missing.entry(missing).or_default() += 1;
+    }
+}
+
+/// Every set of these numbers.
+fn subsets(of: &[usize]) -> Vec<Vec<usize>> {
+    let member = |set: usize| {
+        let chosen = of
+            .iter()
+            .enumerate()
+            .filter(move |(place, _)| set >> place & 1 == 1);
+        chosen.map(|(_, number)| *number).collect()
+    };
+    (0..1 << of.len()).map(member).collect()
+}
+
+/// Opens as long as one cause is left.
+fn causes_alone_open(turn: &Turn, before: raw::Controller, causes: &[usize]) {
+    for taken in subsets(causes) {
+        let (mut lent, mut call) = (before, turn.call.clone());
+        for cause in &taken {
+            take_away(*cause, &mut lent, &mut call);
+        }
+        let reply = ask(&mut lent, &call, &mut Room::default());
+        assert_eq!(reply.refusal, 0);
+        assert_eq!(
+            reply.closed,
+            taken.len() == causes.len(),
+            "{taken:?} of {causes:?}"
+        );
+    }
+}
+
+/// Changes controller and call so that a cause does not hold, and no other comes or goes.
+fn take_away(cause: usize, lent: &mut raw::Controller, call: &mut Call) {
+    let time = call.time();
+    match cause {
+        0 => lent.previous.verdict.sound = true,
+        1 => {
+            lent.last = time;
+            lent.sound = raw::Moment { set: true, time };
+        }
+        2 => settle_a(lent),
+        3 => lent.stop.set = false,
+        _ => {
+            lent.faults = raw::Controller::ZEROED.faults;
+            lent.previous.verdict.diodebad = false;
+            lent.overrun.set = false;
+            // A latch unsettles; without it a settled D would be a cause.
+            settle_a(lent);
+            if let Call::Fault(..) = call {
+                *call = Call::Tick(time);
+            }
+        }
+    }
+}
+
+/// State A, and no pair that would settle another: the wave is steady, as it is in U, and in D without ventilation.
+fn settle_a(lent: &mut raw::Controller) {
+    lent.settled = b'A';
+    lent.previous.verdict.band = 0;
+}
+
+/// The note of an opening has each cause, by its number, and its figures.
+fn told_in_words(turn: &Turn, causes: &[usize]) {
+    let notes = notes(turn);
+    let opened = notes.iter().find(|note| note.kind == Kind::Opened);
+    let words = &opened.expect("an opening is told").words;
+    for (cause, numeral) in ["(i)", "(ii)", "(iii)", "(iv)", "(v)"].iter().enumerate() {
+        assert_eq!(words.contains(numeral), causes.contains(&cause), "{words}");
+    }
+    for cause in causes {
+        let told = because(turn, *cause);
+        let figure = match cause {
+            0 | 3 => "at ",
+            1 => " ms since",
+            2 => "state D",
+            _ => "fault: ",
+        };
+        assert!(words.contains(&told) && told.contains(figure), "{words}");
+    }
+}
+
+const WAVE: usize = 0;
+const THIS: usize = 1;
+const PREVIOUS: usize = 2;
+const BAND: usize = 3;
+const PAUSE: usize = 4;
+
+/// The conditions of an open contactor and a sample that do not hold.
+fn missing(turn: &Turn) -> Vec<usize> {
+    let c = &turn.told.conditions;
+    assert!(c.open_before && c.not_opened && c.sample);
+    let held = [
+        c.wave_driven,
+        c.this_proven,
+        c.previous_proven,
+        c.same_band,
+        c.pause_over,
+    ];
+    (0..5).filter(|&condition| !held[condition]).collect()
+}
+
+/// Closes once every missing condition is granted.
+fn conditions_alone_close(turn: &Turn, before: raw::Controller, missing: &[usize]) {
+    // What this sample shows can't be granted: then nothing closes.
+    let grants = match missing.contains(&THIS) {
+        true => vec![vec![PREVIOUS, BAND, PAUSE]],
+        false => subsets(missing),
+    };
+    // A proven sample was taken under a driven wave, and none ends the wave of an open contactor.
+    assert!(missing.contains(&THIS) || !missing.contains(&WAVE));
+    for granted in grants {
+        let mut lent = before;
+        for condition in &granted {
+            grant(*condition, turn, &mut lent);
+        }
+        let reply = ask(&mut lent, turn.call, &mut Room::default());
+        assert_eq!(reply.refusal, 0);
+        assert_eq!(
+            reply.closed,
+            granted == missing,
+            "{granted:?} of {missing:?}"
+        );
+    }
+}
+
+/// Changes the controller so that a condition holds.
+fn grant(condition: usize, turn: &Turn, lent: &mut raw::Controller) {
+    let previous = &mut lent.previous;
+    match condition {
+        PREVIOUS => {
+            if !previous.kept {
+                previous.verdict = raw::Controller::ZEROED.previous.verdict;
+            }
+            previous.kept = true;
+            previous.verdict.proven = true;
+        }
+        BAND => {
+            let band = turn.sample.and_then(|sample| sample.verdict.band);
+            previous.verdict.band = band.map_or(0, |band| b'A' + band as u8);
+        }
+        PAUSE => lent.opening.set = false,
+        _ => unreachable!("neither the wave nor what this sample shows is granted"),
+    }
+}
