@@ -172,5 +172,8 @@ pub fn waits_for(turn: &Turn) -> String {
             waits.push(format!("the end of the pause at {end}"));
         }
     }
-    waits.join(", and ")
+    match waits.split_last() {
+        Some((last, rest)) if !rest.is_empty() => format!("{} and {last}", rest.join(", ")),
+        _ => waits.concat(),
+    }
 }

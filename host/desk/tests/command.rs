@@ -226,7 +226,7 @@ fn why_an_open_contactor_is_open() {
         "  previous sample proven   no   at 130: low -10,900 mV is outside -13,000 to -11,000",
         "  both in one band         yes  C, then C",
         "  pause                    no   2,981 ms left of 3,000, since the opening at 121",
-        "The contactor waits for one more proven sample in C, and the end of the pause at 3121.",
+        "The contactor waits for one more proven sample in C and the end of the pause at 3121.",
     ] {
         assert!(told.lines().any(|told| told == line), "{line}\n{told}");
     }

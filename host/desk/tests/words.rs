@@ -5,7 +5,7 @@ use chuldariin_desk::words::{amps, counted, grouped, wave};
 #[test]
 fn numbers_by_threes() {
     for (number, words) in [
-        (0, "0"),
+        (0_i64, "0"),
         (7, "7"),
         (999, "999"),
         (1_000, "1,000"),

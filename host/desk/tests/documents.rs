@@ -1,0 +1,72 @@
+//! The documents' own examples: each block that starts with `$ ./chuldariin` is run at the top of the repository. Its lines must be
+//! lines of the answer, in their order; others may lie between them. A block that starts with a line's number goes on with that answer.
+
+use std::fs;
+use std::path::PathBuf;
+use std::process::Command;
+
+fn top() -> PathBuf {
+    PathBuf::from(env!("CARGO_MANIFEST_DIR")).join("../..")
+}
+
+/// The indented blocks of a document, each without its indent.
+fn blocks(document: &str) -> Vec<Vec<&str>> {
+    let mut blocks = vec![Vec::new()];
+    for line in document.lines() {
+        match (line.strip_prefix("    "), blocks.last_mut()) {
+            (Some(line), Some(block)) => block.push(line.trim_end()),
+            // An empty line may stand inside a block.
+            (None, Some(block)) if line.is_empty() && !block.is_empty() => block.push(""),
+            _ => blocks.push(Vec::new()),
+        }
+    }
+    blocks
+}
+
+/// What a command answers. The demo writes to a folder of this test.
+fn answer(command: &str) -> String {
+    let folder = std::env::temp_dir().join(format!("chuldariin-documents-{}", std::process::id()));
+    let mut tool = Command::new(env!("CARGO_BIN_EXE_chuldariin-desk"));
+    tool.args(command.split(' ')).current_dir(top());
+    if command == "demo" {
+        tool.arg(folder);
+    }
+    let output = tool.output().expect("the tool ends");
+    String::from_utf8([output.stdout, output.stderr].concat()).expect("UTF-8")
+}
+
+/// Are these lines of the answer, in their order?
+fn all_told(block: &[&str], told: &str) {
+    let mut lines = told.lines().map(str::trim_end);
+    for wanted in block {
+        assert!(
+            wanted.is_empty() || lines.any(|line| line == *wanted),
+            "{wanted}\n{told}"
+        );
+    }
+}
+
+/// Checks the blocks of a document; how many commands they show.
+fn check(document: &str) -> usize {
+    let (mut commands, mut told) = (0, String::new());
+    for block in blocks(document) {
+        let Some(first) = block.first() else { continue };
+        if let Some(command) = first.strip_prefix("$ ./chuldariin ") {
+            commands += 1;
+            told = answer(command);
+            all_told(&block[1..], &told);
+        } else if first.trim_start().starts_with(|c: char| c.is_ascii_digit()) {
+            all_told(&block, &told);
+        }
+    }
+    commands
+}
+
+#[test]
+fn what_the_documents_show_is_so() {
+    for (name, least) in [("README.md", 1), ("docs/REPLAY.md", 4)] {
+        let document = fs::read_to_string(top().join(name)).expect(name);
+        let shown = check(&document);
+        assert!(shown >= least, "{name} shows {shown} commands");
+    }
+}
