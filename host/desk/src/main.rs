@@ -6,7 +6,7 @@ use chuldariin_desk::options::{command, Command, USAGE};
 use chuldariin_desk::paint::Paint;
 use chuldariin_desk::plot::{plot, NothingThere};
 use chuldariin_desk::progress::Progress;
-use chuldariin_desk::replay::replay;
+use chuldariin_desk::replay::{replay, Only};
 use chuldariin_desk::why::{why, TooEarly};
 use std::error::Error;
 use std::io::{self, BufWriter, Write};
@@ -54,13 +54,8 @@ fn run(command: Command) -> Result<(), Box<dyn Error>> {
         Command::Help => writeln!(out, "{USAGE}")?,
         Command::Replay { file, only } => {
             let log = read(&file)?;
-            replay(
-                &log,
-                only,
-                paint,
-                Progress::of(log.calls().count() as u64),
-                &mut out,
-            )?;
+            let progress = Progress::of(log.calls().count() as u64, only == Only::All);
+            replay(&log, only, paint, progress, &mut out)?;
         }
         Command::Why { file, at } => why(&read(&file)?, at, paint, &mut out)?,
         Command::Plot {

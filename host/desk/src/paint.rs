@@ -38,7 +38,7 @@ impl Paint {
     }
 
     fn with(self, code: &str, text: &str) -> String {
-        match self.0 {
+        match self.0 && !text.trim().is_empty() {
             true => format!("\x1b[{code}m{text}\x1b[0m"),
             false => text.to_string(),
         }

@@ -17,22 +17,35 @@ pub struct Progress {
     told: Option<Instant>,
     /// A line of it stands on the terminal.
     shown: bool,
+    /// Standard output is a terminal too.
+    shared: bool,
 }
 
 impl Progress {
-    pub fn of(calls: u64) -> Progress {
-        let wanted = calls >= LONG && io::stderr().is_terminal();
+    /// Of a replay that shows all lines or some. Where all of them go to the terminal, they are progress enough.
+    pub fn of(calls: u64, all: bool) -> Progress {
+        let shared = io::stdout().is_terminal();
+        let wanted = calls >= LONG && io::stderr().is_terminal() && !(shared && all);
         Progress {
             calls,
             done: 0,
             told: wanted.then(Instant::now),
             shown: false,
+            shared: shared && wanted,
         }
     }
 
     /// For a short log.
     pub fn none() -> Progress {
-        Progress::of(0)
+        Progress::of(0, true)
+    }
+
+    /// A line was written: on a shared terminal it has to stand there whole before the next word of progress.
+    pub fn written(&self, out: &mut impl Write) -> io::Result<()> {
+        match self.shared {
+            true => out.flush(),
+            false => Ok(()),
+        }
     }
 
     /// One call is done.

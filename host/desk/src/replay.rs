@@ -37,7 +37,9 @@ pub fn replay(
     for entry in &log.entries {
         let call = match &entry.what {
             Line::Comment(text) => {
+                progress.clear();
                 table.comment(out, text)?;
+                progress.written(out)?;
                 continue;
             }
             Line::Call(call) => call,
@@ -56,6 +58,7 @@ pub fn replay(
         if only == Only::All || since.changed(&turn, &notes) {
             progress.clear();
             table.row(out, &turn, &notes)?;
+            progress.written(out)?;
         }
         since.see(&turn);
     }

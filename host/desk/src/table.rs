@@ -46,7 +46,6 @@ impl Table {
     }
 
     pub fn row(&self, out: &mut impl Write, turn: &Turn, notes: &[Note]) -> io::Result<()> {
-        let reply = &turn.reply;
         write!(
             out,
             "{:>line$}  {:>time$}  {:<24}  {:<10}  ",
@@ -57,38 +56,39 @@ impl Table {
             line = self.line_width,
             time = self.time_width,
         )?;
-        // A refused begin comes alone, and before the first begin nothing is commanded.
-        if reply.letter == 0 || !turn.begun && !turn.accepted() {
-            write!(
-                out,
-                "{:<5}  {:<16}  {:<9}  {:<16}  {:>8}",
-                "-", "-", "-", "-", "-"
-            )?;
-        } else {
-            let contactor = format!("{:<9}", if reply.closed { "closed" } else { "open" });
-            write!(
-                out,
-                "{:<5}  {:<16}  {}  {}  {:>8}",
-                state(reply.letter, reply.digit),
-                wave(reply.wave),
-                match reply.closed {
-                    true => self.paint.colour(Colour::Green, &contactor),
-                    false => contactor,
-                },
-                match reply.fault {
-                    0 => " ".repeat(16),
-                    _ => self
-                        .paint
-                        .colour(Colour::Red, &format!("{:<16}", fault(reply.fault))),
-                },
-                reply.closings,
-            )?;
-        }
+        self.told(out, turn)?;
         for (place, note) in notes.iter().enumerate() {
             let apart = if place == 0 { "  " } else { "; " };
             write!(out, "{apart}{}", self.note(note))?;
         }
         writeln!(out)
+    }
+
+    /// What the reply tells.
+    fn told(&self, out: &mut impl Write, turn: &Turn) -> io::Result<()> {
+        let reply = &turn.reply;
+        // A refused begin comes alone, and before the first begin nothing is commanded.
+        if reply.letter == 0 || !turn.begun && !turn.accepted() {
+            let none = "-";
+            return write!(
+                out,
+                "{none:<5}  {none:<16}  {none:<9}  {none:<16}  {none:>8}"
+            );
+        }
+        let contactor = format!("{:<9}", if reply.closed { "closed" } else { "open" });
+        let contactor = match reply.closed {
+            true => self.paint.colour(Colour::Green, &contactor),
+            false => contactor,
+        };
+        let fault = format!("{:<16}", fault(reply.fault));
+        write!(
+            out,
+            "{:<5}  {:<16}  {contactor}  {}  {:>8}",
+            state(reply.letter, reply.digit),
+            wave(reply.wave),
+            self.paint.colour(Colour::Red, &fault),
+            reply.closings,
+        )
     }
 
     fn note(&self, note: &Note) -> String {
