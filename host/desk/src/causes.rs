@@ -43,10 +43,8 @@ pub fn notes(turn: &Turn) -> Vec<Note> {
         notes.push(note(Kind::Closed, closed(turn)));
     }
     latched(turn, &mut notes);
-    if !turn.told.opened {
-        overrun(turn, &mut notes);
-        stop(turn, &mut notes);
-    }
+    overrun(turn, &mut notes);
+    stop(turn, &mut notes);
     notes
 }
 
@@ -55,9 +53,9 @@ fn note(kind: Kind, words: String) -> Note {
 }
 
 fn begun(turn: &Turn) -> Vec<Note> {
-    let ventilation = if turn.after.ventilation { "" } else { "no " };
+    let ventilation = if turn.after.ventilation { "with" } else { "no" };
     let pause = grouped(turn.after.pause);
-    let words = format!("a new list begins: pause {pause} ms, {ventilation}ventilation");
+    let words = format!("a new list begins: pause {pause} ms, {ventilation} ventilation");
     let mut notes = vec![note(Kind::Event, words)];
     if turn.begun_while_closed() {
         notes.insert(
@@ -68,18 +66,21 @@ fn begun(turn: &Turn) -> Vec<Note> {
     notes
 }
 
-/// Faults 1 and 2, which the controller finds itself, and a fault that is told again.
+/// The faults that this call latched, and why.
 fn latched(turn: &Turn, notes: &mut Vec<Note>) {
     for (place, name) in FAULTS.iter().enumerate() {
+        if !turn.told.latched[place] {
+            continue;
+        }
         let why = match (place, turn.sample, turn.previous) {
-            _ if !turn.told.latched[place] => continue,
             (0, Some(this), Ok(previous)) => both_off(&previous, &this, low_off),
             (1, _, _) => format!("the over-run began {}", ago(turn.before.overrun, turn)),
             _ if turn.before.faults[place] => "told again".to_string(),
-            _ => continue,
+            _ => "told".to_string(),
         };
-        // A bad diode is unsound too, and then its figures are told already.
-        if !notes.iter().any(|note| note.words.contains(&why)) {
+        // An opening tells its faults, and of a bad diode its levels.
+        let known = |note: &Note| note.words.contains(&why) || why == "told";
+        if !(turn.told.opened && notes.iter().any(known)) {
             let words = format!("fault {} ({name}): {why}", place + 1);
             notes.push(note(Kind::Event, words));
         }
@@ -104,13 +105,15 @@ fn low_off(sample: &Sample) -> Off {
 
 /// Why a sample is not sound: its high level, else its low one.
 fn unsound(sample: &Sample) -> Off {
-    match sample.high {
-        1_501..7_500 => low_off(sample),
-        level => Off {
-            name: "high",
-            level,
-            rule: "not between 1,500 and 7,500",
-        },
+    let rule = match sample.high {
+        ..=1_500 => "not above 1,500",
+        7_500.. => "not below 7,500",
+        _ => return low_off(sample),
+    };
+    Off {
+        name: "high",
+        level: sample.high,
+        rule,
     }
 }
 
@@ -124,7 +127,7 @@ fn both_off(previous: &Sample, this: &Sample, off: fn(&Sample) -> Off) -> String
         previous.time
     );
     let second = format!("{} mV at {}", grouped(other.level), this.time);
-    match one.name == other.name {
+    match one.rule == other.rule {
         true => format!("{first} and {second} are {}", one.rule),
         false => format!(
             "{first} is {}, {} {second} is {}",
@@ -191,12 +194,12 @@ pub fn closed(turn: &Turn) -> String {
             grouped(turn.after.last - opening),
             grouped(turn.after.pause)
         ),
-        None => "never opened before".to_string(),
+        None => "not opened since begin".to_string(),
     };
     format!("CLOSED: proven in {band} at {samples}; {rest}")
 }
 
-/// A measure that starts or ends an over-run.
+/// An over-run that starts, or that ends without a fault.
 fn overrun(turn: &Turn, notes: &mut Vec<Note>) {
     let words = match (turn.before.overrun, turn.after.overrun, turn.call) {
         (None, Some(start), Call::Measure(_, current)) => format!(
@@ -225,14 +228,15 @@ fn allowed(state: &State) -> String {
     }
 }
 
+/// A stop that starts, or that ends before it opens.
 fn stop(turn: &Turn, notes: &mut Vec<Note>) {
     let words = match (turn.before.stop, turn.after.stop) {
         (None, Some(start)) => format!(
-            "stop starts: {}; opens at {} unless a wave is driven before",
+            "stop starts: {}; opens at {} unless a wave is driven by then",
             why_steady(&turn.after),
             start + STOP
         ),
-        (Some(start), None) => {
+        (Some(start), None) if !turn.told.causes[3] => {
             format!("stop ends, {} ms old", grouped(turn.after.last - start))
         }
         _ => return,

@@ -4,7 +4,7 @@ use crate::causes::{low_band, why_low};
 use crate::turn::{Forgotten, Sample, Turn};
 use crate::words::{call, faults, grouped, letter, wave, why_steady};
 use chuldariin_log::Call;
-use chuldariin_model::{driven, Band, Conditions};
+use chuldariin_model::{driven, Band, Conditions, State};
 
 /// One closing condition.
 pub struct Condition {
@@ -37,12 +37,12 @@ pub fn conditions(turn: &Turn) -> Vec<Condition> {
     ]
 }
 
-/// Begin has no step 5, but a contactor that is open, and no pause to wait for.
+/// Begin has no step 5, but a contactor that is open after it, and no pause to wait for.
 fn found(turn: &Turn) -> Conditions {
     match turn.call {
         Call::Begin(_) => Conditions {
-            open_before: true,
-            not_opened: true,
+            open_before: !turn.before.closed,
+            not_opened: !turn.begun_while_closed(),
             pause_over: true,
             ..Conditions::default()
         },
@@ -61,12 +61,12 @@ fn wave_detail(turn: &Turn) -> String {
 fn this_detail(turn: &Turn) -> String {
     match turn.sample {
         Some(sample) => why_unproven(&sample, turn.before.ventilation),
-        None => "there is none in this call".to_string(),
+        None => "no sample in this call".to_string(),
     }
 }
 
 fn previous_detail(turn: &Turn) -> String {
-    if turn.told.opened || turn.told.latched.contains(&true) {
+    if forgets(turn) {
         return "it is forgotten in this call".to_string();
     }
     match turn.previous {
@@ -124,17 +124,23 @@ fn band_detail(turn: &Turn) -> String {
         None => "no band",
         band => letter(band),
     };
-    match (turn.previous, turn.sample) {
-        (Ok(previous), Some(this)) => format!("{}, then {}", band(previous), band(this)),
-        (_, Some(this)) => format!("this is {}", band(this)),
-        _ => String::new(),
+    match (turn.sample, turn.previous) {
+        (None, _) => "no sample in this call".to_string(),
+        _ if forgets(turn) => "the previous sample is forgotten in this call".to_string(),
+        (Some(this), Err(_)) => format!("no previous sample, then {}", band(this)),
+        (Some(this), Ok(previous)) => format!("{}, then {}", band(previous), band(this)),
     }
+}
+
+/// Did the call forget the previous sample?
+fn forgets(turn: &Turn) -> bool {
+    turn.told.opened || turn.told.latched.contains(&true)
 }
 
 fn pause_detail(turn: &Turn) -> String {
     let (pause, now) = (turn.after.pause, turn.after.last);
     match turn.after.opening {
-        None => "never opened".to_string(),
+        None => "not opened since begin".to_string(),
         Some(opening) if now - opening >= pause => format!(
             "over: opened at {opening}, {} ms ago; the pause is {} ms",
             grouped(now - opening),
@@ -151,17 +157,9 @@ fn pause_detail(turn: &Turn) -> String {
 /// What an open contactor waits for, in one sentence.
 pub fn waits_for(turn: &Turn) -> String {
     let after = &turn.after;
-    let mut waits = Vec::new();
-    if after.any_fault() {
-        waits.push(format!(
-            "a clear call (fault latched: {})",
-            faults(&after.faults)
-        ));
-    } else if !driven(after.wave) {
-        waits.push(format!("a driven wave ({})", why_steady(after)));
-    }
-    match (after.previous, turn.told.closing) {
-        (Some(sample), false) if sample.proven => {
+    let mut waits = waits_for_wave(after);
+    match after.previous {
+        Some(sample) if sample.proven => {
             waits.push(format!("one more proven sample in {}", letter(sample.band)));
         }
         _ => waits.push("two proven samples in a row in one band".to_string()),
@@ -176,4 +174,25 @@ pub fn waits_for(turn: &Turn) -> String {
         Some((last, rest)) if !rest.is_empty() => format!("{} and {last}", rest.join(", ")),
         _ => waits.concat(),
     }
+}
+
+/// What a wave that is not driven waits for.
+fn waits_for_wave(state: &State) -> Vec<String> {
+    let mut waits = Vec::new();
+    if state.any_fault() {
+        waits.push(format!("a clear call (fault: {})", faults(&state.faults)));
+    }
+    if state.rated.min(state.limit) < 6_000 {
+        let limit = grouped(state.limit);
+        waits.push(format!("a limit of 6,000 mA or more (it is {limit})"));
+    }
+    let settled = match state.settled {
+        None => "a settled state (it is U)",
+        Some(Band::A) => "a van (the state is A)",
+        Some(Band::E) => "another state than E",
+        Some(Band::D) if !state.ventilation => "another state than D, without ventilation",
+        Some(_) => return waits,
+    };
+    waits.push(settled.to_string());
+    waits
 }

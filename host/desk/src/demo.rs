@@ -2,7 +2,7 @@
 
 use crate::input::Log;
 use crate::paint::Paint;
-use crate::plot::plot;
+use crate::plot::{plot, WHOLE};
 use crate::progress::Progress;
 use crate::replay::{replay, Only};
 use std::error::Error;
@@ -54,7 +54,6 @@ pub fn day() -> String {
         now: 0,
     };
     day.comment("A charging day, shortened: a sample every 20 ms, 32 A rated, a pause of 3,000 ms, no ventilation.");
-    day.comment("Replay it: ./chuldariin replay target/demo/day.log --only changes");
     day.call("begin", "32000 3000 no");
     first_charge(&mut day);
     withdrawn(&mut day);
@@ -142,22 +141,37 @@ pub fn demo(folder: &str, paint: Paint, out: &mut impl Write) -> Result<(), Box<
     let (file, picture) = (format!("{folder}/day.log"), format!("{folder}/day.svg"));
     std::fs::create_dir_all(Path::new(folder)).map_err(|error| format!("{folder}: {error}"))?;
     write(&file, &text)?;
-    write(&picture, &plot(&log, "day.log", (0, u64::MAX))?)?;
+    write(&picture, &plot(&log, "day.log", WHOLE)?)?;
     writeln!(
         out,
         "A charging day, replayed through the proved controller. Lines where something changed:\n"
     )?;
     replay(&log, Only::Changes, paint, Progress::none(), out)?;
+    let (name, file) = (name(), quoted(&file));
     writeln!(out, "\nlog      {file}")?;
-    writeln!(out, "picture  {picture}")?;
+    writeln!(out, "picture  {}", quoted(&picture))?;
     writeln!(out, "\nTo go on:")?;
-    writeln!(out, "  ./chuldariin replay {file}             every call")?;
+    writeln!(out, "  {name} replay {file}             every call")?;
     writeln!(
         out,
-        "  ./chuldariin why {file} --at 9000      why the contactor is open then"
+        "  {name} why {file} --at 9000      why the contactor is open then"
     )?;
-    writeln!(out, "  ./chuldariin plot {file} -o out.svg    the picture")?;
+    writeln!(out, "  {name} plot {file} -o out.svg    the picture")?;
     Ok(())
+}
+
+/// How the command was called; the script tells it.
+fn name() -> String {
+    quoted(&std::env::var("CHULDARIIN_COMMAND").unwrap_or("chuldariin".to_string()))
+}
+
+/// A word as a shell takes it.
+fn quoted(word: &str) -> String {
+    let plain = |c: char| c.is_alphanumeric() || "/._-".contains(c);
+    match !word.is_empty() && word.chars().all(plain) {
+        true => word.to_string(),
+        false => format!("'{}'", word.replace('\'', "'\\''")),
+    }
 }
 
 /// Writes a file; the error names it.

@@ -13,25 +13,29 @@ pub struct Log {
     pub entries: Vec<Entry>,
 }
 
-/// Why there is no log to replay. Shown, it says what to do.
+/// Why a log is not replayed. Shown, it says what to do.
 #[derive(Debug)]
 pub enum Unfit {
-    /// The file, and what the system says of it.
-    Unread(String, std::io::Error),
+    /// What the system says of the file.
+    Unread(std::io::Error),
     /// Two bytes a character.
     Utf16,
     Lines(Vec<Wrong>),
     /// No call at all.
     Empty,
-    /// The line of the first call, which is no begin.
+    /// The line of the first call, which is no begin, and its word.
     NoBegin(usize, &'static str),
+    /// The picture would be written over the log.
+    Overwritten(String),
+    /// Any of these, of a file.
+    Of(String, Box<Unfit>),
 }
 
 impl fmt::Display for Unfit {
     fn fmt(&self, f: &mut fmt::Formatter<'_>) -> fmt::Result {
         match self {
-            Unfit::Unread(name, error) => write!(f, "{name}: can't be read: {error}"),
-            Unfit::Utf16 => write!(f, "the log is UTF-16; expected plain text (UTF-8): save it as that"),
+            Unfit::Unread(error) => write!(f, "can't be read: {error}"),
+            Unfit::Utf16 => write!(f, "the log is UTF-16; expected UTF-8: save it as that"),
             Unfit::Lines(wrong) => {
                 let lines: Vec<String> = wrong.iter().take(SHOWN).map(Wrong::to_string).collect();
                 write!(f, "{}", lines.join("\n"))?;
@@ -49,11 +53,21 @@ impl fmt::Display for Unfit {
                 "line {line}: the first call is {word}; expected begin TIME RATED PAUSE yes|no: a log is replayed from its begin, \
                  since what went before is not known"
             ),
+            Unfit::Overwritten(name) => write!(f, "-o {name} is the log itself; expected another name"),
+            Unfit::Of(name, unfit) => write!(f, "{name}: {unfit}"),
         }
     }
 }
 
 impl std::error::Error for Unfit {}
+
+/// The name of a file as it is shown.
+pub fn shown(name: &str) -> &str {
+    match name {
+        "-" => "standard input",
+        _ => name,
+    }
+}
 
 /// Reads a file, or standard input if its name is `-`.
 pub fn read(name: &str) -> Result<Log, Unfit> {
@@ -64,8 +78,8 @@ pub fn read(name: &str) -> Result<Log, Unfit> {
         }
         _ => std::fs::read(name),
     };
-    let shown = if name == "-" { "standard input" } else { name };
-    Log::of(&text.map_err(|error| Unfit::Unread(shown.to_string(), error))?)
+    let log = text.map_err(Unfit::Unread).and_then(|text| Log::of(&text));
+    log.map_err(|unfit| Unfit::Of(shown(name).to_string(), Box::new(unfit)))
 }
 
 impl Log {

@@ -1,7 +1,7 @@
 //! The command `chuldariin`.
 
 use chuldariin_desk::demo;
-use chuldariin_desk::input::{read, Unfit};
+use chuldariin_desk::input::{read, shown, Unfit};
 use chuldariin_desk::options::{command, Command, USAGE};
 use chuldariin_desk::paint::Paint;
 use chuldariin_desk::plot::{plot, NothingThere};
@@ -9,6 +9,7 @@ use chuldariin_desk::progress::Progress;
 use chuldariin_desk::replay::{replay, Only};
 use chuldariin_desk::why::{why, TooEarly};
 use std::error::Error;
+use std::fs;
 use std::io::{self, BufWriter, Write};
 use std::process::ExitCode;
 
@@ -25,7 +26,7 @@ fn main() -> ExitCode {
     let told = match command(&words) {
         Ok(command) => run(command),
         Err(what) => {
-            eprintln!("chuldariin: {what}\n\n{USAGE}");
+            eprint!("chuldariin: {what}\n\n{USAGE}");
             return ExitCode::from(WRONG);
         }
     };
@@ -51,7 +52,7 @@ fn run(command: Command) -> Result<(), Box<dyn Error>> {
     let mut out = BufWriter::with_capacity(1 << 16, io::stdout().lock());
     let paint = Paint::for_stdout();
     match command {
-        Command::Help => writeln!(out, "{USAGE}")?,
+        Command::Help => write!(out, "{USAGE}")?,
         Command::Replay { file, only } => {
             let log = read(&file)?;
             let progress = Progress::of(log.calls().count() as u64, only == Only::All);
@@ -64,13 +65,24 @@ fn run(command: Command) -> Result<(), Box<dyn Error>> {
             from,
             to,
         } => {
-            let svg = plot(&read(&file)?, &file, (from, to))?;
+            let svg = plot(&read(&file)?, shown(&file), (from, to))?;
             match name.as_str() {
                 "-" => out.write_all(svg.as_bytes())?,
-                _ => demo::write(&name, &svg)?,
+                _ => write(&file, &name, &svg)?,
             }
         }
         Command::Demo { folder } => demo::demo(&folder, paint, &mut out)?,
     }
     Ok(out.flush()?)
+}
+
+/// Writes a picture, and never over its log.
+fn write(log: &str, name: &str, svg: &str) -> Result<(), Box<dyn Error>> {
+    let (log, out) = (fs::canonicalize(log), fs::canonicalize(name));
+    if let (Ok(log), Ok(out)) = (log, out) {
+        if log == out {
+            return Err(Unfit::Overwritten(name.to_string()).into());
+        }
+    }
+    demo::write(name, svg)
 }

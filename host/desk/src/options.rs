@@ -1,18 +1,10 @@
 //! The command line.
 
 use crate::replay::Only;
+use crate::why::At;
 
-pub const USAGE: &str = "\
-chuldariin: replays a charging post's log through the proved controller
-
-  chuldariin replay FILE [--only changes]   every call with its reply, each closing and opening with its cause
-  chuldariin why FILE --at TIME             which closing conditions hold at TIME (ms), and which do not
-  chuldariin plot FILE -o OUT.svg           a picture of it
-             [--from TIME] [--to TIME]      or of a part of it
-  chuldariin demo [FOLDER]                  writes, replays and draws a charging day
-
-FILE is a log, one call a line, or - for standard input. docs/REPLAY.md explains it.
-Exit status: 0 done, 1 it could not be finished, 2 the log or the command is wrong.";
+/// How to call it; the script beside the repository's README shows it too.
+pub const USAGE: &str = include_str!("usage.txt");
 
 /// What is to be done.
 #[derive(Clone, Debug, PartialEq, Eq)]
@@ -24,7 +16,7 @@ pub enum Command {
     },
     Why {
         file: String,
-        at: u64,
+        at: At,
     },
     Plot {
         file: String,
@@ -77,24 +69,47 @@ fn replay(words: &[&str]) -> Result<Command, String> {
 }
 
 fn why(words: &[&str]) -> Result<Command, String> {
-    let words = Words::of(words, &["--at"], "why FILE --at TIME")?;
+    let words = Words::of(
+        words,
+        &["--at", "--line"],
+        "why FILE --at TIME, or --line LINE",
+    )?;
+    let at = match (words.number("--at")?, words.number("--line")?) {
+        (Some(time), None) => At::Time(time),
+        (None, Some(line)) => At::Line(usize::try_from(line).unwrap_or(usize::MAX)),
+        (None, None) => return Err(words.missing("--at")),
+        _ => {
+            return Err(format!(
+                "--at and --line; expected one of them: {}",
+                words.form
+            ))
+        }
+    };
     Ok(Command::Why {
         file: words.file()?,
-        at: words.time("--at")?.ok_or_else(|| words.missing("--at"))?,
+        at,
     })
 }
 
 fn plot(words: &[&str]) -> Result<Command, String> {
     let form = "plot FILE -o OUT.svg [--from TIME] [--to TIME]";
     let words = Words::of(words, &["-o", "--from", "--to"], form)?;
+    let (file, out) = (
+        words.file()?,
+        words.value("-o").ok_or_else(|| words.missing("-o"))?,
+    );
+    let from = words.number("--from")?.unwrap_or(0);
+    let to = words.number("--to")?.unwrap_or(u64::MAX);
+    if from > to {
+        return Err(format!(
+            "--from {from} is after --to {to}; expected an earlier --from"
+        ));
+    }
     Ok(Command::Plot {
-        file: words.file()?,
-        out: words
-            .value("-o")
-            .ok_or_else(|| words.missing("-o"))?
-            .to_string(),
-        from: words.time("--from")?.unwrap_or(0),
-        to: words.time("--to")?.unwrap_or(u64::MAX),
+        file,
+        out: out.to_string(),
+        from,
+        to,
     })
 }
 
@@ -145,14 +160,14 @@ impl<'a> Words<'a> {
             .map(|option| option.1)
     }
 
-    fn time(&self, name: &str) -> Result<Option<u64>, String> {
+    fn number(&self, name: &str) -> Result<Option<u64>, String> {
         let Some(word) = self.value(name) else {
             return Ok(None);
         };
         match word.parse() {
-            Ok(time) if !word.starts_with('+') => Ok(Some(time)),
+            Ok(number) if !word.starts_with('+') => Ok(Some(number)),
             _ => Err(format!(
-                "{name} '{word}' is no time; expected milliseconds in digits alone"
+                "{name} '{word}' is no number; expected digits alone, like 32000"
             )),
         }
     }

@@ -71,8 +71,9 @@ pub fn replay(
 #[derive(Default)]
 struct Since {
     reply: Option<raw::Reply>,
-    /// Calls refused in a row.
+    /// Calls refused in a row, and the last of them.
     refused: u64,
+    refused_call: Option<(u8, &'static str)>,
 }
 
 impl Since {
@@ -88,7 +89,7 @@ impl Since {
         notes
     }
 
-    /// Did what is told change, or is there something to say? Of equal refusals in a row the first counts.
+    /// Did what is told change, or is there something to say? Of equal refusals of one kind of call in a row the first counts.
     fn changed(&self, turn: &Turn, notes: &[Note]) -> bool {
         let Some(before) = self.reply else {
             return true;
@@ -101,21 +102,17 @@ impl Since {
                 } != turn.reply
                     || !notes.is_empty()
             }
-            false => before.refusal != turn.reply.refusal,
+            false => self.refused_call != Some((turn.reply.refusal, turn.call.word())),
         }
     }
 
     fn see(&mut self, turn: &Turn) {
         // A refused begin comes alone, and tells nothing of the controller.
-        match (self.reply, turn.reply.letter) {
-            (Some(before), 0) => {
-                self.reply = Some(raw::Reply {
-                    refusal: turn.reply.refusal,
-                    ..before
-                })
-            }
-            _ => self.reply = Some(turn.reply),
+        if turn.reply.letter != 0 || self.reply.is_none() {
+            self.reply = Some(turn.reply);
         }
-        self.refused = if turn.accepted() { 0 } else { self.refused + 1 };
+        let refused = !turn.accepted();
+        self.refused = if refused { self.refused + 1 } else { 0 };
+        self.refused_call = refused.then(|| (turn.reply.refusal, turn.call.word()));
     }
 }

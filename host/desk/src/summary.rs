@@ -1,7 +1,7 @@
 //! What a whole log comes to.
 
 use crate::turn::Turn;
-use crate::words::{grouped, CAUSES, NUMERALS, REFUSALS};
+use crate::words::{counted, grouped, CAUSES, NUMERALS, REFUSALS};
 use std::io::{self, Write};
 
 /// Two closings in a row of one list.
@@ -36,6 +36,12 @@ pub struct Summary {
     refusals: [u64; 8],
     last_closing: Option<u64>,
     shortest: Option<Spacing>,
+    /// The last closing before the present list, where the clock runs on, and the shortest time from such a one.
+    closing_before: Option<u64>,
+    across: Option<u64>,
+    /// Calls refused in a row, up to now, and what held since.
+    refused_now: u64,
+    held: Option<(u64, bool)>,
 }
 
 impl Summary {
@@ -43,23 +49,38 @@ impl Summary {
         self.calls += 1;
         if !turn.accepted() {
             self.refusals[turn.reply.refusal as usize - 1] += 1;
+            self.refused_now += 1;
             return;
         }
+        self.refused_now = 0;
+        self.held = Some((turn.after.last, turn.reply.closed));
         if turn.begins() {
-            self.begins += 1;
-            self.by_begin += u64::from(turn.begun_while_closed());
-            self.last_closing = None;
+            self.begin(turn);
         }
         if turn.told.opened {
-            self.openings += 1;
-            let held = turn.told.causes.map(u64::from);
-            self.several += u64::from(held.iter().sum::<u64>() > 1);
-            for (count, held) in self.causes.iter_mut().zip(held) {
-                *count += held;
-            }
+            self.opening(turn);
         }
         if turn.told.closing {
             self.closing(turn.after.last, turn.after.pause);
+        }
+    }
+
+    fn begin(&mut self, turn: &Turn) {
+        self.begins += 1;
+        self.by_begin += u64::from(turn.begun_while_closed());
+        // A clock that starts anew tells nothing of the time between.
+        let runs_on = turn.begun && turn.after.last >= turn.before.last;
+        let last = self.last_closing.or(self.closing_before);
+        self.closing_before = last.filter(|_| runs_on);
+        self.last_closing = None;
+    }
+
+    fn opening(&mut self, turn: &Turn) {
+        self.openings += 1;
+        let held = turn.told.causes.map(u64::from);
+        self.several += u64::from(held.iter().sum::<u64>() > 1);
+        for (count, held) in self.causes.iter_mut().zip(held) {
+            *count += held;
         }
     }
 
@@ -75,6 +96,9 @@ impl Summary {
                 Some(shortest) if shortest.spare() <= spacing.spare() => Some(shortest),
                 _ => Some(spacing),
             };
+        } else if let Some(first) = self.closing_before {
+            let apart = time - first;
+            self.across = Some(self.across.map_or(apart, |across| across.min(apart)));
         }
         self.last_closing = Some(time);
     }
@@ -96,7 +120,21 @@ impl Summary {
         writeln!(out, "  closings  {}", grouped(self.closings))?;
         self.print_openings(out)?;
         self.print_refusals(out)?;
-        writeln!(out, "  spacing   {}", self.spacing())
+        writeln!(out, "  spacing   {}", self.spacing())?;
+        if let Some(apart) = self.across {
+            let apart = grouped(apart);
+            writeln!(out, "            across a begin {apart} ms: a begin starts afresh, and no pause holds there")?;
+        }
+        match (self.refused_now, self.held) {
+            (0, _) => Ok(()),
+            (refused, Some((since, closed))) => writeln!(
+                out,
+                "  end       refused, {} in a row: nothing is judged since {since}, and the contactor stays {}",
+                counted(refused, "call"),
+                if closed { "closed" } else { "open" }
+            ),
+            (_, None) => writeln!(out, "  end       no begin was accepted"),
+        }
     }
 
     fn print_openings(&self, out: &mut impl Write) -> io::Result<()> {

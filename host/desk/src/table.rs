@@ -3,7 +3,7 @@
 use crate::causes::{Kind, Note};
 use crate::paint::{Colour, Paint};
 use crate::turn::Turn;
-use crate::words::{call, fault, letter, wave};
+use crate::words::{call, letter, told_fault, wave};
 use chuldariin_log::{Entry, Line};
 use chuldariin_model::Verdict;
 use std::io::{self, Write};
@@ -33,7 +33,7 @@ impl Table {
 
     pub fn heading(&self, out: &mut impl Write) -> io::Result<()> {
         let text = format!(
-            "{:>line$}  {:>time$}  {:<24}  {:<10}  {:<5}  {:<16}  {:<9}  {:<16}  {:>8}  what happened",
+            "{:>line$}  {:>time$}  {:<24}  {:<10}  {:<5}  {:<16}  {:<9}  {:<19}  {:>8}  what happened",
             "line", "ms", "call", "sample", "state", "wave", "contactor", "fault", "closings",
             line = self.line_width,
             time = self.time_width,
@@ -72,7 +72,7 @@ impl Table {
             let none = "-";
             return write!(
                 out,
-                "{none:<5}  {none:<16}  {none:<9}  {none:<16}  {none:>8}"
+                "{none:<5}  {none:<16}  {none:<9}  {none:<19}  {none:>8}"
             );
         }
         let contactor = format!("{:<9}", if reply.closed { "closed" } else { "open" });
@@ -80,7 +80,7 @@ impl Table {
             true => self.paint.colour(Colour::Green, &contactor),
             false => contactor,
         };
-        let fault = format!("{:<16}", fault(reply.fault));
+        let fault = format!("{:<19}", told_fault(turn));
         write!(
             out,
             "{:<5}  {:<16}  {contactor}  {}  {:>8}",

@@ -47,7 +47,7 @@ pub struct Turn<'a> {
     pub told: Told,
     /// This call's sample.
     pub sample: Option<Sample>,
-    /// The previous one, as the call found it.
+    /// The previous one, as the call found it; begin looks for none.
     pub previous: Result<Sample, Forgotten>,
 }
 
@@ -132,7 +132,10 @@ impl Post {
             after: state,
             told,
             sample: sampled(call, &reply, levels, &before),
-            previous: self.previous,
+            previous: match call {
+                Call::Begin(_) => Err(Forgotten::Never),
+                _ => self.previous,
+            },
         };
         self.begun |= turn.begins();
         self.keep(&turn);

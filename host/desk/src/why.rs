@@ -1,67 +1,112 @@
 //! The command `why`: which closing conditions hold at a time, and which do not.
 
-use crate::causes::{closed, notes};
+use crate::causes::{closed, notes, Kind};
 use crate::conditions::{conditions, waits_for};
 use crate::input::Log;
 use crate::paint::{Colour, Paint};
 use crate::table::state;
 use crate::turn::{Post, Turn};
-use crate::words::{call, wave};
+use crate::words::{call, grouped, wave};
 use std::error::Error;
 use std::fmt;
 use std::io::{self, Write};
 
-/// A time before all that was accepted.
+/// Up to where a log is replayed.
+#[derive(Clone, Copy, Debug, PartialEq, Eq)]
+pub enum At {
+    Time(u64),
+    Line(usize),
+}
+
+impl fmt::Display for At {
+    fn fmt(&self, f: &mut fmt::Formatter<'_>) -> fmt::Result {
+        match self {
+            At::Time(time) => write!(f, "{time}"),
+            At::Line(line) => write!(f, "line {line}"),
+        }
+    }
+}
+
+/// Nothing was accepted up to there.
 #[derive(Debug)]
 pub struct TooEarly {
-    at: u64,
-    first: u64,
+    at: At,
+    /// Line and time of the first accepted call, if there is one.
+    first: Option<(usize, u64)>,
 }
 
 impl fmt::Display for TooEarly {
     fn fmt(&self, f: &mut fmt::Formatter<'_>) -> fmt::Result {
-        let TooEarly { at, first } = self;
-        write!(
-            f,
-            "no call up to {at} was accepted: the log starts at {first}; expected a later time"
-        )
+        match self.first {
+            Some((line, time)) => write!(
+                f,
+                "no call up to {} is accepted; expected the first accepted call or later: line {line}, at {time}",
+                self.at
+            ),
+            None => write!(f, "no call of the log is accepted: nothing has begun"),
+        }
     }
 }
 
 impl Error for TooEarly {}
 
-/// What is known at a time.
+/// What is known there.
+#[derive(Clone, Copy, Default)]
 struct Found<'a> {
-    /// The last accepted call up to the time.
-    last: Turn<'a>,
-    /// The closing since which the contactor is closed.
+    /// The last accepted call up to there.
+    last: Option<Turn<'a>>,
+    /// The present list's last closing and opening.
     closing: Option<Turn<'a>>,
+    opening: Option<Turn<'a>>,
     /// The first refused call after it, and how many there were.
     refused: Option<(Turn<'a>, u64)>,
 }
 
-/// Says why the contactor is open at a time, or that it is closed.
-pub fn why(log: &Log, at: u64, paint: Paint, out: &mut impl Write) -> Result<(), Box<dyn Error>> {
-    let Some(found) = find(log, at)? else {
-        let first = log.calls().next().map_or(0, |(_, call)| call.time());
+impl<'a> Found<'a> {
+    fn accepted(&mut self, turn: Turn<'a>) {
+        if turn.begins() {
+            (self.closing, self.opening) = (None, None);
+        }
+        if turn.told.closing {
+            self.closing = Some(turn);
+        }
+        if turn.told.opened || turn.begun_while_closed() {
+            self.opening = Some(turn);
+        }
+        self.last = Some(turn);
+        self.refused = None;
+    }
+
+    fn refused(&mut self, turn: Turn<'a>) {
+        self.refused = match self.refused {
+            None => Some((turn, 1)),
+            Some((first, count)) => Some((first, count + 1)),
+        };
+    }
+}
+
+/// Says why the contactor is open there, or that it is closed.
+pub fn why(log: &Log, at: At, paint: Paint, out: &mut impl Write) -> Result<(), Box<dyn Error>> {
+    let found = find(log, at)?;
+    let Some(last) = found.last else {
+        let first = first_accepted(log)?;
         return Err(TooEarly { at, first }.into());
     };
-    let last = &found.last;
     writeln!(
         out,
-        "at {at}: the last accepted call is line {}, {} at {}",
+        "at {at}: the last accepted call is line {}, {} at {}{}",
         last.line,
-        call(last),
-        last.after.last
+        call(&last),
+        last.after.last,
+        earlier(at, &last)
     )?;
-    if let Some((refused, count)) = &found.refused {
-        let words: Vec<String> = notes(refused).into_iter().map(|note| note.words).collect();
+    if let Some((first, count)) = &found.refused {
         writeln!(
             out,
             "after it {count} refused, which judge nothing; the first is line {}, {}: {}",
-            refused.line,
-            call(refused),
-            words.join("; ")
+            first.line,
+            call(first),
+            told(first, Kind::Refused)
         )?;
     }
     let contactor = if last.reply.closed { "closed" } else { "open" };
@@ -74,22 +119,37 @@ pub fn why(log: &Log, at: u64, paint: Paint, out: &mut impl Write) -> Result<(),
     )?;
     match (last.reply.closed, &found.closing) {
         (true, Some(closing)) => {
-            writeln!(
-                out,
-                "The contactor is closed since line {}, at {}.",
-                closing.line, closing.after.last
-            )?;
+            let (line, time) = (closing.line, closing.after.last);
+            writeln!(out, "The contactor is closed since line {line}, at {time}.")?;
             writeln!(out, "{}", closed(closing))?;
         }
-        _ => open(last, paint, out)?,
+        _ => open(&last, found.opening.as_ref(), paint, out)?,
     }
     Ok(())
 }
 
-fn open(last: &Turn, paint: Paint, out: &mut impl Write) -> io::Result<()> {
-    if last.told.opened {
-        let words: Vec<String> = notes(last).into_iter().map(|note| note.words).collect();
-        writeln!(out, "{}\n", words.join("; "))?;
+/// How long before the time that was asked for.
+fn earlier(at: At, last: &Turn) -> String {
+    match at {
+        At::Time(at) if at > last.after.last => {
+            format!(", {} ms before", grouped(at - last.after.last))
+        }
+        _ => String::new(),
+    }
+}
+
+/// The note of a kind.
+fn told(turn: &Turn, kind: Kind) -> String {
+    let notes = notes(turn);
+    let note = notes.into_iter().find(|note| note.kind == kind);
+    note.map_or(String::new(), |note| note.words)
+}
+
+fn open(last: &Turn, opening: Option<&Turn>, paint: Paint, out: &mut impl Write) -> io::Result<()> {
+    if let Some(opening) = opening {
+        let (line, time) = (opening.line, opening.after.last);
+        let words = told(opening, Kind::Opened);
+        writeln!(out, "{words}; line {line}, at {time}\n")?;
     }
     for condition in conditions(last) {
         let holds = match condition.holds {
@@ -102,35 +162,41 @@ fn open(last: &Turn, paint: Paint, out: &mut impl Write) -> io::Result<()> {
     writeln!(out, "\nThe contactor waits for {}.", waits_for(last))
 }
 
-/// Replays up to a time.
-fn find(log: &Log, at: u64) -> Result<Option<Found<'_>>, Box<dyn Error>> {
+/// Replays up to there. Where a time fits several lists, the last of them counts.
+fn find(log: &Log, at: At) -> Result<Found<'_>, Box<dyn Error>> {
     let mut post = Post::default();
-    let mut closing = None;
-    let mut found: Option<Found> = None;
-    let mut past = false;
+    let mut found = Found::default();
+    let mut kept = Found::default();
     for (line, call) in log.calls() {
         let turn = post.turn(line, call)?;
-        if turn.told.closing {
-            closing = Some(turn);
+        match turn.accepted() {
+            true => found.accepted(turn),
+            false => found.refused(turn),
         }
-        if turn.accepted() {
-            past = turn.call.time() > at;
-        }
-        if past || turn.call.time() > at {
-            continue;
-        }
-        if turn.accepted() {
-            found = Some(Found {
-                last: turn,
-                closing,
-                refused: None,
-            });
-        } else if let Some(found) = &mut found {
-            found.refused = match found.refused {
-                None => Some((turn, 1)),
-                Some((first, count)) => Some((first, count + 1)),
-            };
+        if reaches(at, &turn, &found) {
+            kept = found;
         }
     }
-    Ok(found)
+    Ok(kept)
+}
+
+/// Is this call not past what was asked for?
+fn reaches(at: At, turn: &Turn, found: &Found) -> bool {
+    let since = found.last.map_or(0, |last| last.after.last);
+    match at {
+        At::Line(line) => turn.line <= line,
+        // The clock of a call that is refused for its time says nothing.
+        At::Time(time) if matches!(turn.reply.refusal, 2 | 3) => since <= time,
+        At::Time(time) => since <= time && turn.call.time() <= time,
+    }
+}
+
+fn first_accepted(log: &Log) -> Result<Option<(usize, u64)>, Box<dyn Error>> {
+    let mut post = Post::default();
+    for (line, call) in log.calls() {
+        if post.turn(line, call)?.accepted() {
+            return Ok(Some((line, call.time())));
+        }
+    }
+    Ok(None)
 }

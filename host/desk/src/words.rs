@@ -89,7 +89,17 @@ pub fn letter(band: Option<Band>) -> &'static str {
     }
 }
 
-/// The fault that a reply tells.
+/// The fault that a reply tells, and how many more are latched.
+pub fn told_fault(turn: &Turn) -> String {
+    let latched = turn.after.faults.iter().filter(|fault| **fault).count();
+    let name = fault(turn.reply.fault);
+    match latched {
+        0 | 1 => name.to_string(),
+        _ => format!("{name} +{}", latched - 1),
+    }
+}
+
+/// A fault by its number.
 pub fn fault(number: u8) -> &'static str {
     match number {
         1..=5 => FAULTS[number as usize - 1],
@@ -135,7 +145,7 @@ pub fn call(turn: &Turn) -> String {
         (Call::Sample(..), Some(sample)) => {
             format!("window {} / {}", grouped(sample.high), grouped(sample.low))
         }
-        (Call::Sample(_, window), None) => format!("window of {}", window.length()),
+        (Call::Sample(_, window), None) => format!("window of {}", grouped(window.length() as u64)),
         (Call::Limit(_, current), _) => format!("limit {} mA", grouped(*current)),
         (Call::Measure(_, current), _) => format!("measure {} mA", grouped(*current)),
         (Call::Fault(_, kind @ 1..=5), _) => format!("fault {kind} {}", fault(*kind as u8)),

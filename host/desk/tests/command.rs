@@ -50,7 +50,11 @@ fn file(name: &str, content: &[u8]) -> PathBuf {
     path
 }
 
-/// Refused whole: status 2, nothing on standard output, and this on standard error.
+/// A log from standard input is refused whole: status 2, nothing on standard output, and this on standard error.
+fn wrong_log(output: &Output, said: &str) {
+    wrong(output, &format!("standard input: {said}"));
+}
+
 fn wrong(output: &Output, said: &str) {
     assert_eq!(output.status.code(), Some(2), "{}", text(&output.stderr));
     assert_eq!(text(&output.stdout), "");
@@ -69,7 +73,7 @@ fn a_log_is_replayed_from_a_file_and_from_standard_input() {
     assert!(closing.starts_with(
         "   6     40  sample 6,000 / -12,000    C proven    C2     53.3 % = 31.98 A  closed"
     ));
-    assert!(closing.ends_with(">> CLOSED: proven in C at 30 and 40; never opened before"));
+    assert!(closing.ends_with(">> CLOSED: proven in C at 30 and 40; not opened since begin"));
     assert!(!shown.contains('\u{1b}'), "colours are for terminals");
     assert_eq!(text(&by_input.stderr), "");
 }
@@ -103,7 +107,7 @@ fn a_file_that_is_not_there() {
 fn a_log_without_calls() {
     let said = "the log has no call; expected begin TIME RATED PAUSE yes|no, and the calls after it, one a line";
     for log in ["", "\n\n", "# nothing\r\n", "   \t\n"] {
-        wrong(&replay(log.as_bytes()), said);
+        wrong_log(&replay(log.as_bytes()), said);
     }
 }
 
@@ -111,8 +115,8 @@ fn a_log_without_calls() {
 fn a_log_without_begin() {
     let said = "line 2: the first call is tick; expected begin TIME RATED PAUSE yes|no: a log is replayed from its begin, \
                 since what went before is not known";
-    wrong(&replay(b"# the end of a log\ntick 10\ntick 20\n"), said);
-    wrong(
+    wrong_log(&replay(b"# the end of a log\ntick 10\ntick 20\n"), said);
+    wrong_log(
         &replay(b"# the end of a log\ntick 10\nbegin 20 32000 0 no\n"),
         said,
     );
@@ -121,14 +125,14 @@ fn a_log_without_begin() {
 #[test]
 fn wrong_lines() {
     let log = format!("{CHARGE}sample 50 6000\ntick 60\n");
-    wrong(
+    wrong_log(
         &replay(log.as_bytes()),
         "line 7: LOW is missing; expected sample TIME HIGH LOW",
     );
     let log = format!("{CHARGE}limit 50 4294967296\n");
     let said =
         "line 7: MA '4294967296' is too large: the most is 4294967295; expected limit TIME MA";
-    wrong(&replay(log.as_bytes()), said);
+    wrong_log(&replay(log.as_bytes()), said);
     let output = replay(&b"step 1\n".repeat(12));
     let said = text(&output.stderr);
     assert_eq!(output.status.code(), Some(2));
@@ -138,12 +142,12 @@ fn wrong_lines() {
 
 #[test]
 fn bytes_that_are_no_text() {
-    wrong(
+    wrong_log(
         &replay(b"\xff\xfet\0i\0"),
-        "the log is UTF-16; expected plain text (UTF-8): save it as that",
+        "the log is UTF-16; expected UTF-8: save it as that",
     );
-    let said = "line 1: byte 6 (0xff) is not of any text; expected plain text (UTF-8)";
-    wrong(&replay(b"tick \xff\n"), said);
+    let said = "line 1: byte 6 (0xff) is not UTF-8; expected text in UTF-8";
+    wrong_log(&replay(b"tick \xff\n"), said);
 }
 
 #[test]
@@ -171,11 +175,11 @@ fn commands_that_are_wrong() {
         ),
         (
             &["why", "a"],
-            "--at is missing; expected why FILE --at TIME",
+            "--at is missing; expected why FILE --at TIME, or --line LINE",
         ),
         (
             &["why", "a", "--at", "x"],
-            "--at 'x' is no time; expected milliseconds in digits alone",
+            "--at 'x' is no number; expected digits alone, like 32000",
         ),
         (
             &["plot", "a"],
@@ -236,7 +240,7 @@ fn why_an_open_contactor_is_open() {
     let early = run(&["why", "-", "--at", "5"], b"begin 10 32000 0 no\n");
     wrong(
         &early,
-        "no call up to 5 was accepted: the log starts at 10; expected a later time",
+        "no call up to 5 is accepted; expected the first accepted call or later: line 1, at 10",
     );
 }
 
@@ -245,12 +249,16 @@ fn a_refused_call_is_no_answer_to_why() {
     let log = "begin 0 32000 0 no\ntick 20\nlimit 25 80001\nlimit 26 80001\ntick 50\ntick 30\n";
     let told = text(&run(&["why", "-", "--at", "40"], log.as_bytes()).stdout);
     assert!(
-        told.starts_with("at 40: the last accepted call is line 2, tick at 20\nafter it 2 refused"),
+        told.starts_with(
+            "at 40: the last accepted call is line 2, tick at 20, 20 ms before\nafter it 2 refused"
+        ),
         "{told}"
     );
     let told = text(&run(&["why", "-", "--at", "60"], log.as_bytes()).stdout);
     assert!(
-        told.starts_with("at 60: the last accepted call is line 5, tick at 50\nafter it 1 refused"),
+        told.starts_with(
+            "at 60: the last accepted call is line 5, tick at 50, 10 ms before\nafter it 1 refused"
+        ),
         "{told}"
     );
 }

@@ -5,17 +5,15 @@
 
 use chuldariin_desk::input::Log;
 use chuldariin_desk::paint::Paint;
-use chuldariin_desk::plot::plot;
+use chuldariin_desk::plot::{plot, WHOLE};
 use chuldariin_desk::progress::Progress;
 use chuldariin_desk::replay::{replay, Only};
-use chuldariin_desk::why::why;
+use chuldariin_desk::why::{why, At};
 use std::fs;
 use std::path::PathBuf;
 
 /// A log with more calls is long.
 const LONG: usize = 60;
-
-const ALL: (u64, u64) = (0, u64::MAX);
 
 fn examples() -> PathBuf {
     PathBuf::from(env!("CARGO_MANIFEST_DIR")).join("../../examples")
@@ -75,7 +73,7 @@ fn each_shown_picture_is_as_it_was() {
         let path = examples().join("replayed").join(format!("{name}.svg"));
         let title = format!("{name}.log");
         if path.exists() {
-            let svg = plot(&log, &title, ALL).expect("a picture");
+            let svg = plot(&log, &title, WHOLE).expect("a picture");
             if std::env::var_os("CHULDARIIN_WRITE").is_some() {
                 fs::write(&path, &svg).expect("a file");
             }
@@ -105,7 +103,7 @@ fn each_time_of_a_log_has_its_why() {
         let last = log.calls().map(|(_, call)| call.time()).max().unwrap_or(0);
         for part in 0..20 {
             let mut out = Vec::new();
-            why(&log, last / 20 * part, Paint::none(), &mut out).expect("an answer");
+            why(&log, At::Time(last / 20 * part), Paint::none(), &mut out).expect("an answer");
             let told = String::from_utf8(out).expect("UTF-8");
             let ends = ["The contactor waits for", "The contactor is closed since"];
             assert!(ends.iter().any(|end| told.contains(end)), "{name}: {told}");
@@ -116,7 +114,7 @@ fn each_time_of_a_log_has_its_why() {
 #[test]
 fn each_picture_is_well_formed() {
     for (name, log) in logs() {
-        let svg = plot(&log, "a < b & \"c\" \u{1b}", ALL).expect("a picture");
+        let svg = plot(&log, "a < b & \"c\" \u{1b}", WHOLE).expect("a picture");
         well_formed(&svg, &name);
         let (first, last) = (log.calls().next(), log.calls().last());
         let part = (
@@ -138,7 +136,7 @@ fn odd_times_have_their_picture() {
         "begin 7 32000 0 no\ntick 7\n",
         "begin 7 32000 0 no\ntick 1000000000000\ntick 5\n",
     ] {
-        let svg = plot(&read(text.as_bytes()), "odd", ALL).expect("a picture");
+        let svg = plot(&read(text.as_bytes()), "odd", WHOLE).expect("a picture");
         well_formed(&svg, text);
         assert!(!svg.contains("NaN") && !svg.contains("inf"), "{text}");
     }
@@ -161,7 +159,7 @@ fn a_long_log_has_a_small_picture() {
             ),
         });
     }
-    let svg = plot(&read(text.as_bytes()), "long", ALL).expect("a picture");
+    let svg = plot(&read(text.as_bytes()), "long", WHOLE).expect("a picture");
     well_formed(&svg, "long");
     assert!(svg.len() < 1_500_000, "{} bytes", svg.len());
 }

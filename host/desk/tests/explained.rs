@@ -63,7 +63,10 @@ fn replay(calls: &[Call], counts: &mut Counts) {
         let turn = post.turn(place + 1, call).expect("the explanation holds");
         let begins = matches!(call, Call::Begin(_));
         assert_eq!(turn.reply, reply);
-        assert_eq!(turn.previous.ok().map(|s| s.verdict), turn.before.previous);
+        if !begins {
+            let previous = turn.previous.ok().map(|sample| sample.verdict);
+            assert_eq!(previous, turn.before.previous);
+        }
         if reply.refusal == 0 && !begins {
             assert_eq!(turn.told.opened, told_closed && !reply.closed);
             assert_eq!(turn.told.closing, !told_closed && reply.closed);

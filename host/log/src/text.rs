@@ -35,7 +35,8 @@ const FORMS: [(&str, &str); 8] = [
 
 const CALLS: &str = "begin, sample, window, limit, measure, fault, clear or tick";
 const DIGITS: &str = "a whole number in digits alone, like 32000 or -12000";
-const TEXT: &str = "plain text (UTF-8)";
+const TEXT: &str = "text in UTF-8";
+const ENDS: &str = "lines that end in LF or CR LF";
 
 /// So much of a word is shown, in characters.
 const SHOWN: usize = 24;
@@ -128,12 +129,21 @@ fn parse_line(line: usize, bytes: &[u8]) -> Result<Option<Line>, Wrong> {
     let text = std::str::from_utf8(bytes).map_err(|error| Wrong {
         line,
         what: format!(
-            "byte {} (0x{:02x}) is not of any text",
+            "byte {} (0x{:02x}) is not UTF-8",
             error.valid_up_to() + 1,
             bytes[error.valid_up_to()]
         ),
         expected: TEXT,
     })?;
+    if text.contains('\r') {
+        let what = "a CR that no LF follows".to_string();
+        let expected = ENDS;
+        return Err(Wrong {
+            line,
+            what,
+            expected,
+        });
+    }
     let (call, comment) = match text.split_once('#') {
         Some((call, comment)) => (call, Some(comment)),
         None => (text, None),

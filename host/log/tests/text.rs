@@ -30,7 +30,9 @@ const WRONG: [(&str, &str); 30] = [
     ("begin 0 32000 0 maybe", "'maybe' is neither yes nor no; expected begin TIME RATED PAUSE yes|no"),
     ("begin 0 32000 0 no 5", "'5' is one value too many; expected begin TIME RATED PAUSE yes|no"),
     ("tick 1 2", "'2' is one value too many; expected tick TIME"),
-    ("tick 1\rtick 2", "'tick' is one value too many; expected tick TIME"),
+    ("tick 1\rtick 2",
+        "a CR that no LF follows; expected lines that end in LF or CR LF",
+    ),
     ("Tick 1", "'Tick' is no call; expected begin, sample, window, limit, measure, fault, clear or tick"),
     ("step 1", "'step' is no call; expected begin, sample, window, limit, measure, fault, clear or tick"),
     ("10 tick", "'10' is no call; expected begin, sample, window, limit, measure, fault, clear or tick"),
@@ -95,7 +97,7 @@ fn bytes_that_are_no_text() {
     let wrong = parse(b"tick 1\ntick \xff\n").expect_err("0xff is in no UTF-8");
     assert_eq!(
         wrong[0].to_string(),
-        "line 2: byte 6 (0xff) is not of any text; expected plain text (UTF-8)"
+        "line 2: byte 6 (0xff) is not UTF-8; expected text in UTF-8"
     );
 }
 

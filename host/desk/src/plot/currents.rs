@@ -2,7 +2,7 @@
 
 use super::scale::{Panel, Scale};
 use super::svg::{Anchor, Svg};
-use super::thin::{steps, thin};
+use super::thin::{steps, thin, Point};
 use super::track::{Run, Track};
 use super::{CURRENTS, CURRENTS_END, LEFT, RIGHT};
 
@@ -39,9 +39,13 @@ pub fn draw(svg: &mut Svg, track: &Track, scale: &Scale) {
     svg.path(&line(&track.rated), "rated");
     svg.path(&line(&track.announced), "announced");
     svg.path(&line(&track.limit), "limit");
-    let measured = track.measured.iter();
-    for (x, y) in thin(measured.map(|point| (scale.x(point.0), panel.y(point.1.into())))) {
-        svg.circle(x, y, 2.2, "measured");
+    let dot = |measured: &(u64, u32)| Point {
+        x: scale.x(measured.0),
+        y: panel.y(measured.1.into()),
+        joined: false,
+    };
+    for dot in thin(track.measured.iter().map(dot)) {
+        svg.circle(dot.x, dot.y, 2.2, "measured");
     }
     svg.frame(LEFT, panel.top, RIGHT - LEFT, panel.height);
     legend(svg);

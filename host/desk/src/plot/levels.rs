@@ -2,8 +2,8 @@
 
 use super::scale::{Panel, Scale};
 use super::svg::{Anchor, Svg};
-use super::thin::thin;
-use super::track::Track;
+use super::thin::{thin, Point};
+use super::track::{Levels, Track};
 use super::{LEFT, LEVELS, LEVELS_END, RIGHT};
 
 /// Name, ends in mV, and colour of each band.
@@ -53,15 +53,20 @@ pub fn draw(svg: &mut Svg, track: &Track, scale: &Scale) {
 }
 
 fn lines(svg: &mut Svg, track: &Track, scale: &Scale) {
-    let low = |sample: &(u64, i32, i32)| (scale.x(sample.0), PANEL.y(sample.2.into()));
-    let high = |sample: &(u64, i32, i32)| (scale.x(sample.0), PANEL.y(sample.1.into()));
+    let point = |levels: &Levels, level: i32| Point {
+        x: scale.x(levels.at),
+        y: PANEL.y(level.into()),
+        joined: levels.joined,
+    };
+    let low = |levels: &Levels| point(levels, levels.low);
+    let high = |levels: &Levels| point(levels, levels.high);
     svg.path(&thin(track.samples.iter().map(low)), "low");
     svg.path(&thin(track.samples.iter().map(high)), "high");
     if track.samples.len() <= FEW {
         for sample in &track.samples {
-            let ((x, y), (_, low)) = (high(sample), low(sample));
-            svg.circle(x, low, 1.8, "faint");
-            svg.circle(x, y, 2.2, "dot");
+            let (high, low) = (high(sample), low(sample));
+            svg.circle(low.x, low.y, 1.8, "faint");
+            svg.circle(high.x, high.y, 2.2, "dot");
         }
     }
 }

@@ -68,18 +68,25 @@ pub fn list(svg: &mut Svg, track: &Track) -> f64 {
     let opened = |mark: &&Mark| mark.kind == Kind::Opened;
     let openings = track.marks.iter().filter(opened).enumerate();
     let heading = match track.openings {
-        0 => "No opening".to_string(),
-        openings => format!("{} (red); closings are green", counted(openings, "opening")),
+        0 => "No opening; closings are green, begins dotted".to_string(),
+        openings => format!(
+            "{} (red); closings are green, begins dotted",
+            counted(openings, "opening")
+        ),
     };
     svg.text(LEFT, CAUSES, 12.0, Anchor::Start, "title", &heading);
     let mut y = CAUSES + LINE + 2.0;
     for (place, mark) in openings.take(LISTED) {
         let number = (place + 1).to_string();
-        let time = format!("{} ms", grouped(mark.time));
+        let time = format!("{} ms", track.origin + mark.at);
         let words = mark.words.strip_prefix("OPENED: ").unwrap_or(&mark.words);
+        let words = match track.anew {
+            true => format!("{words} (the post's clock: {})", mark.time),
+            false => words.to_string(),
+        };
         svg.text(LEFT + 16.0, y, 12.0, Anchor::End, "", &number);
         svg.text(LEFT + 140.0, y, 12.0, Anchor::End, "", &time);
-        for line in wrapped(words) {
+        for line in wrapped(&words) {
             svg.text(LEFT + 152.0, y, 12.0, Anchor::Start, "", &line);
             y += LINE;
         }

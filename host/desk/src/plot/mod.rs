@@ -43,30 +43,40 @@ const STRIPS: f64 = 552.0;
 const AXIS: f64 = 652.0;
 const CAUSES: f64 = 716.0;
 
+/// So much of the name is shown, in letters.
+const NAME: usize = 90;
+
 const LEGEND: &str =
-    "dark line: high level, grey: low level; a sound high level lies between the dotted lines";
+    "dark line: high level, grey: low level; a sound high level lies strictly between the dotted lines";
 
 /// No call lies in the part that was asked for.
 #[derive(Debug)]
-pub struct NothingThere(u64, u64);
+pub struct NothingThere {
+    from: u64,
+    to: u64,
+}
 
 impl fmt::Display for NothingThere {
     fn fmt(&self, f: &mut fmt::Formatter<'_>) -> fmt::Result {
-        write!(
-            f,
-            "no accepted call is from {} to {}; expected times of the log",
-            self.0, self.1
-        )
+        match (self.from, self.to) {
+            WHOLE => write!(f, "no call of the log was accepted: there is nothing to draw"),
+            (from, u64::MAX) => write!(f, "no call is accepted from {from} on; expected an earlier --from"),
+            (from, to) => write!(f, "no call is accepted from {from} to {to}; expected other times, as the axis of the whole picture has them"),
+        }
     }
 }
 
 impl Error for NothingThere {}
 
+/// The whole of a log.
+pub const WHOLE: (u64, u64) = (0, u64::MAX);
+
 /// The picture of a log, from one time to another.
 pub fn plot(log: &Log, name: &str, part: (u64, u64)) -> Result<String, Box<dyn Error>> {
     let track = Track::of(log, part)?;
-    if track.calls == 0 {
-        return Err(NothingThere(part.0, part.1).into());
+    if track.closed.is_empty() {
+        let (from, to) = part;
+        return Err(NothingThere { from, to }.into());
     }
     let scale = Scale::of(&track);
     let mut svg = Svg::new();
@@ -85,10 +95,8 @@ fn title(svg: &mut Svg, track: &Track, name: &str) {
         0 | 1 => String::new(),
         begins => format!("{begins} begins, "),
     };
-    let times = match track.anew {
-        true => format!("{} ms in all", grouped(track.end)),
-        false => format!("{} to {} ms", grouped(track.first), grouped(track.last)),
-    };
+    let (first, last) = (track.origin, track.origin + track.end);
+    let times = format!("{} to {} ms", grouped(first), grouped(last));
     let words = format!(
         "{begins}{}, {times}: {}, {}, {} refused",
         counted(track.calls, "call"),
@@ -96,7 +104,16 @@ fn title(svg: &mut Svg, track: &Track, name: &str) {
         counted(track.openings, "opening"),
         grouped(track.refused_calls),
     );
-    svg.text(LEFT, 24.0, 16.0, Anchor::Start, "title", name);
+    svg.text(LEFT, 24.0, 16.0, Anchor::Start, "title", &shortened(name));
     svg.text(LEFT, 44.0, 12.0, Anchor::Start, "", &words);
     svg.text(RIGHT, 44.0, 11.0, Anchor::End, "faint", LEGEND);
+}
+
+/// A name that there is room for: of a long one the end.
+fn shortened(name: &str) -> String {
+    let letters: Vec<char> = name.chars().collect();
+    match letters.len().checked_sub(NAME) {
+        None | Some(0) => name.to_string(),
+        Some(more) => format!("..{}", letters[more..].iter().collect::<String>()),
+    }
 }

@@ -13,6 +13,9 @@ const MINUTE: u64 = 60 * SECOND;
 const HOUR: u64 = 60 * MINUTE;
 const DAY: u64 = 24 * HOUR;
 
+const ANEW: &str =
+    "the time of the first list, that runs on where the clock of a later one starts anew";
+
 /// Steps of the axis, ms.
 const STEPS: [u64; 32] = [
     1,
@@ -51,7 +54,7 @@ const STEPS: [u64; 32] = [
 
 /// Times to places.
 pub struct Scale {
-    first: u64,
+    origin: u64,
     span: u64,
     anew: bool,
 }
@@ -59,34 +62,36 @@ pub struct Scale {
 impl Scale {
     pub fn of(track: &Track) -> Scale {
         Scale {
-            first: track.first,
-            span: track.end.max(1),
+            origin: track.origin,
+            span: track.end,
             anew: track.anew,
         }
     }
 
-    /// The place of a time since the first begin.
+    /// The place of a time since the start.
     pub fn x(&self, at: u64) -> f64 {
         LEFT + (RIGHT - LEFT) * at as f64 / self.span as f64
     }
 
     pub fn draw_axis(&self, svg: &mut Svg) {
-        // Where a list starts anew, only the time since the log's begin can be told.
-        let first = if self.anew { 0 } else { self.first };
         let step = self.step();
         let (unit, name) = unit(step);
-        let mut time = first.div_ceil(step) * step;
-        while time <= first + self.span {
-            let x = self.x(time - first);
+        let mut time = self.origin.div_ceil(step) * step;
+        while time <= self.origin + self.span {
+            let x = self.x(time - self.origin);
             svg.line((x, AXIS - 4.0), (x, AXIS + 4.0), "frame");
             let label = format!("{} {name}", grouped(time / unit));
-            svg.text(x, AXIS + 18.0, 12.0, Anchor::Middle, "", &label);
+            // A label at the right end must not leave the picture.
+            let (x, anchor) = match x > RIGHT - ROOM / 2.0 {
+                true => (x + 30.0, Anchor::End),
+                false => (x, Anchor::Middle),
+            };
+            svg.text(x, AXIS + 18.0, 12.0, anchor, "", &label);
             time += step;
         }
         svg.line((LEFT, AXIS), (RIGHT, AXIS), "frame");
         if self.anew {
-            let words = "time since the log's first begin; a list whose clock starts anew follows the one before it";
-            svg.text(LEFT, AXIS + 34.0, 11.0, Anchor::Start, "faint", words);
+            svg.text(LEFT, AXIS + 34.0, 11.0, Anchor::Start, "faint", ANEW);
         }
     }
 

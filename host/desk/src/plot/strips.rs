@@ -5,7 +5,7 @@ use super::svg::{Anchor, Svg};
 use super::track::{Run, Track};
 use super::{LEFT, RIGHT, STRIPS};
 use crate::table::state;
-use crate::words::fault;
+use crate::words::faults;
 
 const HEIGHT: f64 = 18.0;
 const APART: f64 = 24.0;
@@ -54,14 +54,20 @@ pub fn draw(svg: &mut Svg, track: &Track, scale: &Scale) {
     strip(svg, 1, "state", &states, |(letter, digit)| {
         Part::new(&state(*letter, *digit), "", colour(*letter, *digit))
     });
-    let faults = spans(&track.fault, track, scale);
-    strip(svg, 2, "fault", &faults, |number| match number {
-        0 => None,
-        _ => Part::new(fault(*number), &number.to_string(), "#ff8182"),
+    let latched = spans(&track.faults, track, scale);
+    strip(svg, 2, "fault", &latched, |latched| {
+        let numbers: Vec<String> = (1..=5)
+            .filter(|&fault| latched[fault - 1])
+            .map(|fault| fault.to_string())
+            .collect();
+        match numbers.is_empty() {
+            true => None,
+            false => Part::new(&faults(latched), &numbers.join(","), "#ff8182"),
+        }
     });
     let refused: Vec<Span<()>> = track.refused.iter().map(|at| place(scale.x(*at))).collect();
     strip(svg, 3, "refused", &refused, |_| {
-        Part::new("", "", "#9a6700")
+        Part::new("refused", "", "#9a6700")
     });
 }
 
@@ -105,7 +111,7 @@ fn strip<T>(
             continue;
         }
         drawn = span.from + width;
-        svg.fill(span.from, top, width, HEIGHT, part.colour);
+        svg.told_fill(span.from, top, width, HEIGHT, part.colour, &part.long);
         if let Some(label) = part.label(width) {
             let x = span.from + width / 2.0;
             svg.text(x, top + 13.0, 11.0, Anchor::Middle, "", label);

@@ -1,5 +1,6 @@
 //! The picture's elements.
 
+use super::thin::Point;
 use std::fmt::Write;
 
 /// Colours and widths of the lines and letters, by class.
@@ -10,8 +11,8 @@ text{font-family:'DejaVu Sans',Verdana,Arial,sans-serif;fill:#24292f}\
 .frame{fill:none;stroke:#8c959f;stroke-width:1}\
 .grid{stroke:#d0d7de;stroke-width:1}\
 .edge{stroke:#8c959f;stroke-width:1;stroke-dasharray:2 3}\
-.high{fill:none;stroke:#0a3069;stroke-width:1.4}\
-.low{fill:none;stroke:#6e7781;stroke-width:1}\
+.high{fill:none;stroke:#0a3069;stroke-width:1.4;stroke-linecap:round}\
+.low{fill:none;stroke:#6e7781;stroke-width:1;stroke-linecap:round}\
 .announced{fill:none;stroke:#0969da;stroke-width:1.8}\
 .limit{fill:none;stroke:#bc4c00;stroke-width:1.4;stroke-dasharray:6 3}\
 .rated{fill:none;stroke:#8c959f;stroke-width:1;stroke-dasharray:1 3}\
@@ -69,8 +70,22 @@ impl Svg {
 
     /// A rectangle of a colour.
     pub fn fill(&mut self, x: f64, y: f64, width: f64, height: f64, colour: &str) {
+        self.told_fill(x, y, width, height, colour, "");
+    }
+
+    /// The same, that tells something where a pointer rests on it.
+    pub fn told_fill(
+        &mut self,
+        x: f64,
+        y: f64,
+        width: f64,
+        height: f64,
+        colour: &str,
+        words: &str,
+    ) {
+        let words = escaped(words);
         self.push(format_args!(
-            "<rect x=\"{x:.2}\" y=\"{y:.1}\" width=\"{width:.2}\" height=\"{height:.1}\" fill=\"{colour}\"/>"
+            "<rect x=\"{x:.2}\" y=\"{y:.1}\" width=\"{width:.2}\" height=\"{height:.1}\" fill=\"{colour}\"><title>{words}</title></rect>"
         ));
     }
 
@@ -114,11 +129,14 @@ impl Svg {
         ));
     }
 
-    /// A line through these points.
-    pub fn path(&mut self, points: &[(f64, f64)], class: &str) {
+    /// A line through these points; one that nothing is joined to is a dot.
+    pub fn path(&mut self, points: &[Point], class: &str) {
         let mut path = String::new();
-        for (place, (x, y)) in points.iter().enumerate() {
-            let _ = write!(path, "{}{x:.1} {y:.1}", if place == 0 { 'M' } else { 'L' });
+        for Point { x, y, joined } in points {
+            let _ = match joined {
+                true => write!(path, "L{x:.1} {y:.1}"),
+                false => write!(path, "M{x:.1} {y:.1}h.1"),
+            };
         }
         self.push(format_args!("<path d=\"{path}\" class=\"{class}\"/>"));
     }

@@ -7,6 +7,9 @@ use chuldariin::{raw, reading, Milliamps, Reading};
 use chuldariin_log::Call;
 use chuldariin_model::State;
 
+/// Samples further apart are not joined by a line, ms: so long may a contactor be closed without a sound one.
+const JOINED: u64 = 80;
+
 /// A value from a time on.
 pub type Run<T> = (u64, T);
 
@@ -21,13 +24,44 @@ pub enum Kind {
 /// A begin, a closing or an opening.
 pub struct Mark {
     pub at: u64,
-    /// The call's own time, which may have started anew.
+    /// The call's own time.
     pub time: u64,
     pub kind: Kind,
     pub words: String,
 }
 
-/// A log as it is drawn. Times are ms since its first begin, or since the start of the part that is drawn.
+/// The levels of an accepted sample.
+pub struct Levels {
+    pub at: u64,
+    pub high: i32,
+    pub low: i32,
+    /// The sample before it is of the same list, and near.
+    pub joined: bool,
+}
+
+/// The time of the axis: the log's own, that runs on where a later list starts at an earlier time.
+#[derive(Default)]
+struct Clock {
+    /// The present list's begin: its own time, and that of the axis.
+    begin: (u64, u64),
+    now: u64,
+    anew: bool,
+}
+
+impl Clock {
+    fn see(&mut self, turn: &Turn, first: bool) {
+        let time = turn.after.last;
+        if turn.begins() && first {
+            self.begin = (time, time);
+        } else if turn.begins() && time < turn.before.last {
+            self.anew = true;
+            self.begin = (time, self.now);
+        }
+        self.now = time - self.begin.0 + self.begin.1;
+    }
+}
+
+/// A log, or a part of it, as it is drawn. Times are ms since its start.
 #[derive(Default)]
 pub struct Track {
     pub calls: u64,
@@ -35,29 +69,25 @@ pub struct Track {
     pub closings: u64,
     pub openings: u64,
     pub refused_calls: u64,
-    /// The log's first time and its last.
-    pub first: u64,
-    pub last: u64,
+    /// The axis' time at the start.
+    pub origin: u64,
     /// The end of what is drawn.
     pub end: u64,
-    /// A later list starts at an earlier time, and is drawn after the one before it.
+    /// A later list starts at an earlier time.
     pub anew: bool,
-    /// Time, high and low level of each accepted sample.
-    pub samples: Vec<(u64, i32, i32)>,
+    pub samples: Vec<Levels>,
     pub limit: Vec<Run<u32>>,
     pub rated: Vec<Run<u32>>,
     pub announced: Vec<Run<u32>>,
     pub measured: Vec<(u64, u32)>,
     pub closed: Vec<Run<bool>>,
     pub state: Vec<Run<(u8, u8)>>,
-    pub fault: Vec<Run<u8>>,
+    pub faults: Vec<Run<[bool; 5]>>,
     pub refused: Vec<u64>,
     pub marks: Vec<Mark>,
-    /// The present list's begin: its own time, and where it is drawn.
-    begin: (u64, u64),
-    /// The times that are drawn, whether the last accepted call is one of them, and what held before the first.
-    part: (u64, u64),
-    inside: bool,
+    clock: Clock,
+    last_sample: Option<u64>,
+    /// What held before the first call that is drawn.
     held: Option<(State, raw::Reply)>,
 }
 
@@ -69,84 +99,77 @@ fn run<T: PartialEq>(runs: &mut Vec<Run<T>>, at: u64, value: T) {
 }
 
 impl Track {
-    /// The calls of a log from one time to another.
+    /// The calls of a log from one time of the axis to another.
     pub fn of(log: &Log, part: (u64, u64)) -> Result<Track, Differs> {
         let mut post = Post::default();
-        let mut track = Track {
-            part,
-            ..Track::default()
-        };
+        let mut track = Track::default();
         for (line, call) in log.calls() {
-            track.see(&post.turn(line, call)?);
+            track.see(&post.turn(line, call)?, part);
         }
+        // In a part without calls what held before it goes on.
+        if track.calls == 0 && track.clock.now > part.0 {
+            track.start(part.0, part.0);
+        }
+        // What is drawn of the part ends with it, or with the log.
+        let end = track.clock.now.min(part.1).saturating_sub(track.origin);
+        track.end = end.max(1);
+        track.anew = track.clock.anew;
         Ok(track)
     }
 
-    fn see(&mut self, turn: &Turn) {
+    fn see(&mut self, turn: &Turn, part: (u64, u64)) {
         if turn.accepted() {
-            let time = turn.after.last;
-            self.inside = (self.part.0..=self.part.1).contains(&time);
-            if !self.inside {
-                self.outside(turn);
-            }
+            self.clock.see(turn, !turn.begun);
         }
-        if !self.inside {
+        let now = self.clock.now;
+        if now < part.0 && turn.accepted() {
+            self.held = Some((turn.after, turn.reply));
+        }
+        if !(part.0..=part.1).contains(&now) {
             return;
+        }
+        if self.calls == 0 {
+            self.start(now, part.0);
         }
         self.calls += 1;
-        if !turn.accepted() {
-            self.refused_calls += 1;
-            // Its own time says nothing of when it was made.
-            self.refused.push(self.end);
-            return;
+        match turn.accepted() {
+            true => self.accepted(now - self.origin, turn),
+            false => {
+                self.refused_calls += 1;
+                // Its own time says nothing of when it was made.
+                self.refused.push(now - self.origin);
+            }
         }
-        self.accepted(turn);
     }
 
     /// What held before the part that is drawn holds at its start.
-    fn outside(&mut self, turn: &Turn) {
-        if self.calls == 0 {
-            self.held = Some((turn.after, turn.reply));
-        } else if turn.after.last > self.part.1 && self.begin.0 <= self.part.1 {
-            self.end = self.end.max(self.part.1 - self.begin.0 + self.begin.1);
+    fn start(&mut self, now: u64, from: u64) {
+        self.origin = now;
+        if let Some((state, reply)) = self.held {
+            self.origin = from;
+            self.values(0, &state, &reply);
         }
     }
 
-    fn accepted(&mut self, turn: &Turn) {
-        let time = turn.after.last;
-        if self.calls == 1 {
-            self.first = if self.held.is_some() {
-                self.part.0
-            } else {
-                time
-            };
-            (self.last, self.begin) = (self.first, (self.first, 0));
-            if let Some((state, reply)) = self.held {
-                self.values(0, &state, &reply);
-            }
-        }
+    fn accepted(&mut self, at: u64, turn: &Turn) {
         if turn.begins() {
-            self.begin_list(time);
+            self.begins += 1;
+            self.last_sample = None;
         }
-        let at = time - self.begin.0 + self.begin.1;
-        (self.end, self.last) = (at, time);
         if let Some(sample) = turn.sample {
-            self.samples.push((at, sample.high, sample.low));
+            self.samples.push(Levels {
+                at,
+                high: sample.high,
+                low: sample.low,
+                joined: self.last_sample.is_some_and(|last| at - last <= JOINED),
+            });
+            self.last_sample = Some(at);
         }
         if let Call::Measure(_, current) = turn.call {
             self.measured.push((at, *current));
         }
         self.values(at, &turn.after, &turn.reply);
         self.mark(at, turn);
-    }
-
-    /// A list that starts at an earlier time is drawn after the one before it.
-    fn begin_list(&mut self, time: u64) {
-        self.begins += 1;
-        if time < self.last {
-            self.anew = true;
-            self.begin = (time, self.end);
-        }
     }
 
     fn values(&mut self, at: u64, state: &State, reply: &raw::Reply) {
@@ -159,7 +182,7 @@ impl Track {
         run(&mut self.announced, at, announced);
         run(&mut self.closed, at, reply.closed);
         run(&mut self.state, at, (reply.letter, reply.digit));
-        run(&mut self.fault, at, reply.fault);
+        run(&mut self.faults, at, state.faults);
     }
 
     fn mark(&mut self, at: u64, turn: &Turn) {
@@ -172,15 +195,12 @@ impl Track {
         };
         self.openings += u64::from(kind == Kind::Opened);
         self.closings += u64::from(kind == Kind::Closed);
-        let words = notes(turn)
-            .into_iter()
-            .next()
-            .map_or(String::new(), |note| note.words);
+        let first = notes(turn).into_iter().next();
         self.marks.push(Mark {
             at,
             time: turn.after.last,
             kind,
-            words,
+            words: first.map_or(String::new(), |note| note.words),
         });
     }
 }
