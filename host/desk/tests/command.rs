@@ -322,3 +322,157 @@ fn the_demo_writes_what_it_replays() {
         .expect("a picture")
         .ends_with("</svg>\n"));
 }
+
+#[test]
+fn every_latched_fault_is_told() {
+    let log = format!("{CHARGE}fault 50 4\nfault 60 3\nfault 70 3\nclear 80\n");
+    let output = run(&["replay", "-", "--only", "changes"], log.as_bytes());
+    let shown = text(&output.stdout);
+    let lines: Vec<&str> = shown.lines().collect();
+    for (line, fault, words) in [
+        (
+            "7",
+            "welded contact     ",
+            "<< OPENED: fault: welded contact (v)",
+        ),
+        (
+            "8",
+            "residual current +1",
+            "fault 3 (residual current): told",
+        ),
+        (
+            "9",
+            "residual current +1",
+            "fault 3 (residual current): told again",
+        ),
+    ] {
+        let row = lines
+            .iter()
+            .find(|row| row.split_whitespace().next() == Some(line));
+        let row = row.unwrap_or_else(|| panic!("{line}\n{shown}"));
+        assert!(row.contains(fault) && row.ends_with(words), "{row}");
+    }
+    let why = text(&run(&["why", "-", "--at", "70"], log.as_bytes()).stdout);
+    assert!(why.contains("waits for a clear call (fault: residual current, welded contact), a settled state (it is U)"), "{why}");
+}
+
+#[test]
+fn a_begin_starts_afresh() {
+    let log = format!("{CHARGE}begin 50 16000 0 yes\nlimit 60 16000\nsample 70 9000 9000\nsample 80 9000 9000\nsample 90 3000 -12000\nsample 100 3000 -12000\n");
+    let shown = text(&replay(log.as_bytes()).stdout);
+    assert!(
+        shown.contains(
+            "<< OPENED: by the new begin; a new list begins: pause 3,000 ms, with ventilation\n"
+        ),
+        "{shown}"
+    );
+    assert!(
+        shown.contains(">> CLOSED: proven in D at 90 and 100; not opened since begin\n"),
+        "{shown}"
+    );
+    for line in [
+        "  calls     12: 12 accepted, 0 refused, in 2 lists (begins)",
+        "  closings  2",
+        "  openings  1",
+        "          1  by a new begin",
+        "  spacing   no two closings in one list",
+        "            across a begin 60 ms: a begin starts afresh, and no pause holds there",
+    ] {
+        assert!(shown.lines().any(|shown| shown == line), "{line}\n{shown}");
+    }
+    let why = text(&run(&["why", "-", "--at", "50"], log.as_bytes()).stdout);
+    for line in [
+        "OPENED: by the new begin; line 7, at 50",
+        "  contactor open before    no",
+        "  previous sample proven   no   there is none since begin",
+        "The contactor waits for a limit of 6,000 mA or more (it is 0), a settled state (it is U) and two proven samples in a row in one band.",
+    ] {
+        assert!(why.lines().any(|told| told == line), "{line}\n{why}");
+    }
+    // A line of the first list is asked for by its number.
+    let first = text(&run(&["why", "-", "--line", "5"], log.as_bytes()).stdout);
+    assert!(
+        first.starts_with(
+            "at line 5: the last accepted call is line 5, sample 6,000 / -12,000 at 30\n"
+        ),
+        "{first}"
+    );
+}
+
+#[test]
+fn a_log_that_ends_in_refused_calls_says_so() {
+    let log = format!("{CHARGE}tick 39\ntick 38\nlimit 50 80001\nmeasure 50 200001\n");
+    let output = run(&["replay", "-", "--only", "changes"], log.as_bytes());
+    let shown = text(&output.stdout);
+    let end = "  end       refused, 4 calls in a row: nothing is judged since 40, and the contactor stays closed";
+    assert_eq!(shown.lines().last(), Some(end));
+    // One line for the ticks, one for the limit and one for the measure.
+    assert_eq!(shown.matches("REFUSED").count(), 3, "{shown}");
+}
+
+#[test]
+fn the_summary_counts() {
+    let mut log = format!("{CHARGE}sample 50 9000 -12000\nsample 60 9000 -12000\n");
+    for time in (70..=3_060).step_by(10) {
+        log.push_str(&format!("sample {time} 6000 -12000\n"));
+    }
+    // No sound sample, and a fault, in one call.
+    log.push_str("fault 3141 5\ntick 3140\n");
+    let shown = text(&replay(log.as_bytes()).stdout);
+    for line in [
+        "  calls     310: 309 accepted, 1 refused",
+        "  closings  2",
+        "  openings  2",
+        "          1  (i)   two unsound samples in a row",
+        "          1  (ii)  no sound sample for more than 80 ms",
+        "          1  (v)   a fault",
+        "          1  of them had more than one cause, and count under each",
+        "  refusals  1",
+        "          1  2     the time is before the last accepted call",
+        "  spacing   shortest time between two closings 3,020 ms (at 40 and 3060); the pause is 3,000 ms: kept",
+    ] {
+        assert!(shown.lines().any(|shown| shown == line), "{line}\n{shown}");
+    }
+    assert!(shown.contains(
+        "<< OPENED: 81 ms since the last sound sample (ii); fault: over-temperature (v)\n"
+    ));
+}
+
+#[test]
+fn over_runs_and_stops_are_told_from_start_to_end() {
+    let log = format!(
+        "{CHARGE}measure 50 35179\nmeasure 60 35178\nmeasure 70 40000\nlimit 80 5999\nlimit 90 16000\nlimit 100 0\n\
+         sample 110 9000 9000\nsample 120 9000 9000\n"
+    );
+    let shown = text(&replay(log.as_bytes()).stdout);
+    for (line, words) in [
+        (7, "over-run starts: 35,179 mA is above 35,178 (1.1 x 31,980); fault 2 at 5050 unless it ends"),
+        (8, "over-run ends, 10 ms old"),
+        (9, "over-run starts: 40,000 mA is above 35,178 (1.1 x 31,980); fault 2 at 5070 unless it ends"),
+        (10, "over-run ends, 10 ms old; stop starts: limit 5,999 mA is below 6,000; opens at 3080 unless a wave is driven by then"),
+        (11, "stop ends, 10 ms old"),
+        (14, "are not below 7,500 (i); stop ends, 20 ms old"),
+    ] {
+        let row = shown.lines().nth(line).expect("a line for each call");
+        assert!(row.ends_with(words), "{row}");
+    }
+}
+
+#[test]
+fn a_picture_is_never_written_over_its_log() {
+    let log = file("kept.log", CHARGE.as_bytes());
+    let name = log.to_str().expect("a name");
+    let said = format!("-o {name} is the log itself; expected another name");
+    wrong(&run(&["plot", name, "-o", name], b""), &said);
+    assert_eq!(fs::read(&log).expect("the log"), CHARGE.as_bytes());
+    let nothing = run(&["plot", name, "-o", "-", "--from", "41"], b"");
+    wrong(
+        &nothing,
+        "no call is accepted from 41 on; expected an earlier --from",
+    );
+    let nothing = run(&["plot", "-", "-o", "-"], b"begin 0 1 0 no\n");
+    wrong(
+        &nothing,
+        "no call of the log was accepted: there is nothing to draw",
+    );
+}

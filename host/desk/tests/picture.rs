@@ -1,0 +1,130 @@
+//! What a picture shows: its elements, by their classes and places.
+
+use chuldariin_desk::input::Log;
+use chuldariin_desk::plot::{plot, WHOLE};
+
+fn picture(text: &str, part: (u64, u64)) -> String {
+    let log = Log::of(text.as_bytes()).unwrap_or_else(|unfit| panic!("{unfit}"));
+    plot(&log, "log", part).unwrap_or_else(|error| panic!("{error}"))
+}
+
+/// The path of a class.
+fn path<'a>(svg: &'a str, class: &str) -> &'a str {
+    let end = svg
+        .find(&format!("\" class=\"{class}\"/>"))
+        .unwrap_or_else(|| panic!("{class}"));
+    let start = svg[..end].rfind("d=\"").expect("a path") + 3;
+    &svg[start..end]
+}
+
+/// The places of a path, from first to last.
+fn places(path: &str) -> Vec<(f64, f64)> {
+    let parts = path.split(['M', 'L']).skip(1);
+    let place = |part: &str| {
+        let part = part.trim_end_matches("h.1");
+        let (x, y) = part.split_once(' ').expect("x and y");
+        (x.parse().expect("a number"), y.parse().expect("a number"))
+    };
+    parts.map(place).collect()
+}
+
+const CHARGE: &str = "\
+begin 0 32000 3000 no
+limit 0 16000
+sample 10 9000 9000
+sample 20 9000 9000
+sample 30 6000 -12000
+sample 40 6000 -12000
+limit 500 20000
+tick 1000
+";
+
+#[test]
+fn the_lines_stand_at_their_values() {
+    let svg = picture(CHARGE, WHOLE);
+    // 1,000 ms from x 92 to 1164; 15 V at y 92, -15 V at 392.
+    assert_eq!(
+        places(path(&svg, "high"))[..2],
+        [(102.7, 152.0), (113.4, 152.0)]
+    );
+    assert_eq!(places(path(&svg, "low")).last(), Some(&(134.9, 362.0)));
+    // 0 A at y 528, 40 A at 412: the limit is 16 A from the first call on and 20 A from the middle on.
+    let limit = places(path(&svg, "limit"));
+    assert_eq!(limit[..2], [(92.0, 528.0), (92.0, 481.6)]);
+    assert!(limit.contains(&(628.0, 481.6)) && limit.contains(&(628.0, 470.0)));
+    assert_eq!(limit.last(), Some(&(1164.0, 470.0)));
+    // Announced is 0 A, then 15.96 A from 20 on.
+    let announced = places(path(&svg, "announced"));
+    assert_eq!(announced.first(), Some(&(92.0, 528.0)));
+    assert!(announced.contains(&(113.4, 481.7)));
+    assert_eq!(places(path(&svg, "rated")).last(), Some(&(1164.0, 435.2)));
+}
+
+#[test]
+fn bands_and_strips() {
+    let svg = picture(CHARGE, WHOLE);
+    for (top, height) in [
+        (112.0, 20.0),
+        (142.0, 20.0),
+        (172.0, 20.0),
+        (202.0, 20.0),
+        (232.0, 20.0),
+        (352.0, 20.0),
+    ] {
+        let band =
+            format!("<rect x=\"92.00\" y=\"{top:.1}\" width=\"1072.00\" height=\"{height:.1}\"");
+        assert!(svg.contains(&band), "{band}");
+    }
+    // Closed from 40 to 500, where a limit call finds no sound sample for 460 ms.
+    assert!(svg.contains("<rect x=\"134.88\" y=\"552.0\" width=\"493.12\" height=\"18.0\" fill=\"#2da44e\"><title>closed</title>"));
+    assert!(svg.contains("<title>OPENED: 460 ms since the last sound sample (ii)</title>"));
+    assert!(svg.contains(">460 ms since the last sound sample (ii)</text>"));
+    for state in ["U", "B2", "C2"] {
+        assert!(svg.contains(&format!("<title>{state}</title>")), "{state}");
+    }
+}
+
+#[test]
+fn samples_far_apart_are_not_joined() {
+    let text = "begin 0 32000 0 no\nsample 100 9000 9000\nsample 180 9000 9000\nsample 261 9000 9000\nbegin 300 32000 0 no\nsample 310 9000 9000\n";
+    let svg = picture(text, WHOLE);
+    let joined: Vec<char> = path(&svg, "high")
+        .chars()
+        .filter(|c| "ML".contains(*c))
+        .collect();
+    assert_eq!(joined, ['M', 'L', 'M', 'M']);
+}
+
+#[test]
+fn a_part_starts_with_what_held_before_it() {
+    let svg = picture(CHARGE, (45, 400));
+    assert!(
+        svg.contains(">0 calls, 45 to 400 ms: 0 closings, 0 openings, 0 refused</text>"),
+        "{svg}"
+    );
+    assert!(svg.contains("<rect x=\"92.00\" y=\"552.0\" width=\"1072.00\" height=\"18.0\" fill=\"#2da44e\"><title>closed</title>"));
+    let svg = picture(CHARGE, (30, 500));
+    assert!(
+        svg.contains(">3 calls, 30 to 500 ms: 1 closing, 1 opening, 0 refused</text>"),
+        "{svg}"
+    );
+    assert_eq!(places(path(&svg, "limit")).first(), Some(&(92.0, 481.6)));
+}
+
+#[test]
+fn a_clock_that_starts_anew_runs_on() {
+    let text = "begin 500 32000 0 no\ntick 900\nbegin 100 16000 0 yes\nfault 300 4\nfault 300 5\ntick 400\n";
+    let svg = picture(text, WHOLE);
+    assert!(
+        svg.contains(">2 begins, 6 calls, 500 to 1,200 ms:"),
+        "{svg}"
+    );
+    assert!(svg.contains("the clock of a later one starts anew"));
+    assert!(svg.contains("<title>welded contact, over-temperature</title>"));
+    // The fault is told 600 ms after the start, of 700.
+    let x = 92.0 + 1072.0 * 600.0 / 700.0;
+    assert!(
+        svg.contains(&format!("<rect x=\"{x:.2}\" y=\"600.0\"")),
+        "{svg}"
+    );
+}
