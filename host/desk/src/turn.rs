@@ -184,3 +184,23 @@ fn sampled(call: &Call, reply: &raw::Reply, levels: Weighed, before: &State) -> 
         _ => None,
     }
 }
+
+#[cfg(test)]
+mod tests {
+    use super::Post;
+    use chuldariin_log::text::calls;
+
+    #[test]
+    fn a_difference_ends_the_replay() {
+        let list = calls("begin 0 32000 0 no\ntick 1").expect("a list");
+        let mut post = Post::default();
+        post.turn(1, &list[0]).expect("no difference");
+        // As if the archive kept another limit than it was told.
+        post.state.limit = 1;
+        let differs = post.turn(2, &list[1]).expect_err("another limit is kept");
+        assert_eq!(
+            (differs.line, differs.what),
+            (2, vec!["kept limit", "controller"])
+        );
+    }
+}

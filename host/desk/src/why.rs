@@ -165,29 +165,30 @@ fn open(last: &Turn, opening: Option<&Turn>, paint: Paint, out: &mut impl Write)
 /// Replays up to there. Where a time fits several lists, the last of them counts.
 fn find(log: &Log, at: At) -> Result<Found<'_>, Box<dyn Error>> {
     let mut post = Post::default();
-    let mut found = Found::default();
-    let mut kept = Found::default();
+    let (mut found, mut kept) = (Found::default(), Found::default());
+    let mut past = false;
     for (line, call) in log.calls() {
         let turn = post.turn(line, call)?;
         match turn.accepted() {
             true => found.accepted(turn),
             false => found.refused(turn),
         }
-        if reaches(at, &turn, &found) {
+        past = is_past(at, &turn, past);
+        if !past {
             kept = found;
         }
     }
     Ok(kept)
 }
 
-/// Is this call not past what was asked for?
-fn reaches(at: At, turn: &Turn, found: &Found) -> bool {
-    let since = found.last.map_or(0, |last| last.after.last);
+/// Is a call past what was asked for, after one that was or was not?
+fn is_past(at: At, turn: &Turn, before: bool) -> bool {
     match at {
-        At::Line(line) => turn.line <= line,
+        At::Line(line) => turn.line > line,
+        At::Time(time) if turn.accepted() => turn.after.last > time,
         // The clock of a call that is refused for its time says nothing.
-        At::Time(time) if matches!(turn.reply.refusal, 2 | 3) => since <= time,
-        At::Time(time) => since <= time && turn.call.time() <= time,
+        At::Time(_) if matches!(turn.reply.refusal, 2 | 3) => before,
+        At::Time(time) => before || turn.call.time() > time,
     }
 }
 

@@ -1,44 +1,15 @@
 //! The command as a user has it: answers, exit statuses, and what it says of logs that are wrong.
 
 use std::fs::{self, File};
-use std::io::{Read, Write};
+use std::io::Read;
 use std::path::PathBuf;
-use std::process::{Command, Output, Stdio};
+use std::process::{Output, Stdio};
+use tool::{run, text, tool, CHARGE};
 
-const CHARGE: &str = "\
-begin 0 32000 3000 no
-limit 0 32000
-sample 10 9000 9000
-sample 20 9000 9000
-sample 30 6000 -12000
-sample 40 6000 -12000
-";
-
-fn tool() -> Command {
-    Command::new(env!("CARGO_BIN_EXE_chuldariin-desk"))
-}
-
-/// Runs the command with this standard input.
-fn run(words: &[&str], input: &[u8]) -> Output {
-    let mut tool = tool();
-    tool.args(words);
-    tool.stdin(Stdio::piped())
-        .stdout(Stdio::piped())
-        .stderr(Stdio::piped());
-    let mut child = tool.spawn().expect("the tool starts");
-    let mut stdin = child.stdin.take().expect("a pipe");
-    // A command that does not read its input may be gone by now.
-    let _ = stdin.write_all(input);
-    drop(stdin);
-    child.wait_with_output().expect("the tool ends")
-}
+mod tool;
 
 fn replay(log: &[u8]) -> Output {
     run(&["replay", "-"], log)
-}
-
-fn text(bytes: &[u8]) -> String {
-    String::from_utf8(bytes.to_vec()).expect("UTF-8")
 }
 
 /// A file of this test alone.

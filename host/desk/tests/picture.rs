@@ -128,3 +128,44 @@ fn a_clock_that_starts_anew_runs_on() {
         "{svg}"
     );
 }
+
+#[test]
+fn the_axis_has_the_times_of_the_log() {
+    for (log, label) in [
+        ("begin 100000 32000 0 no\ntick 101000\n", ">100,000 ms<"),
+        ("begin 0 32000 0 no\ntick 60000\n", ">10 s<"),
+        ("begin 0 32000 0 no\ntick 600000\n", ">10 min<"),
+        ("begin 0 32000 0 no\ntick 36000000\n", ">10 h<"),
+        ("begin 0 32000 0 no\ntick 1000000000000\n", ">3,650 d<"),
+    ] {
+        let svg = picture(log, WHOLE);
+        assert!(svg.contains(label), "{label}\n{svg}");
+    }
+    let svg = picture(&format!("{CHARGE}measure 1000 100000\n"), WHOLE);
+    assert!(svg.contains(">200 A<") && svg.contains("cx=\"1164.0\" cy=\"470.0\""));
+}
+
+#[test]
+fn of_many_openings_the_first_are_listed() {
+    let mut log = CHARGE.replace("3000 no", "1000 no");
+    for time in (2_000..200_000).step_by(1_200) {
+        let (second, later) = (time + 10, time + 100);
+        log.push_str(&format!(
+            "sample {time} 6000 -12000\nsample {second} 6000 -12000\ntick {later}\n"
+        ));
+    }
+    let svg = picture(&log, WHOLE);
+    assert!(
+        svg.contains(">166 openings (red)")
+            && svg.contains(">and 126 more: replay the log to see them<")
+    );
+    let listed = svg
+        .lines()
+        .filter(|line| line.starts_with("<text") && line.contains("since the last sound sample"));
+    assert_eq!(listed.count(), 40);
+    assert!(!svg.contains("V392.0"), "no line goes through the panels");
+    assert!(
+        svg.matches("class=\"red\"").count() < 80,
+        "the numbers stand apart"
+    );
+}

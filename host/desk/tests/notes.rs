@@ -1,0 +1,55 @@
+//! What a line tells of a call.
+
+use tool::{line, told, CHARGE, PLUGGED};
+
+mod tool;
+
+fn replayed(log: &str) -> String {
+    told(&["replay", "-"], log)
+}
+
+#[test]
+fn rare_calls() {
+    for (calls, start, note) in [
+        ("sample 50 7500 -12000\nsample 60 1500 -12000\n", "8 ", "high 7,500 mV at 50 is not below 7,500, high 1,500 mV at 60 is not above 1,500 (i)"),
+        ("sample 50 7499 -10999\nsample 60 1501 -13001\n", "8 ", "low -10,999 mV at 50 and -13,001 mV at 60 are outside -13,000 to -11,000 (i)"),
+        ("sample 50 7600 -12000\nsample 60 6000 -10900\n", "8 ", "high 7,600 mV at 50 is not below 7,500, low -10,900 mV at 60 is outside -13,000 to -11,000 (i)"),
+        ("begin 50 5999 999 no\n", "7 ", "  REFUSED 1: rated 5,999 mA is not 6,000 to 80,000, pause 999 ms is neither 0 nor 1,000 to 60,000"),
+        ("begin 50 80001 0 no\n", "7 ", "  REFUSED 1: rated 80,001 mA is not 6,000 to 80,000"),
+        ("begin 50 80000 60001 no\n", "7 ", "  REFUSED 1: pause 60,001 ms is neither 0 nor 1,000 to 60,000"),
+        ("sample 50 6000 -20000\n", "7 ", "REFUSED 5: reading 129 is -20,000 mV, where -15,000 to 15,000 are allowed"),
+        ("window 50 1 2\n", "7 ", "REFUSED 4: 2 readings, where 256 to 1,024 are allowed"),
+    ] {
+        let told = replayed(&format!("{CHARGE}{calls}"));
+        let row = line(&told, start);
+        assert!(row.ends_with(note), "{row}");
+    }
+    let told = replayed(&format!(
+        "{PLUGGED}sample 30 9000 9000\nsample 40 9000 9000\n"
+    ));
+    let note =
+        "fault 1 (no diode): low 9,000 mV at 30 and 9,000 mV at 40 are outside -13,000 to -11,000";
+    assert!(line(&told, "6 ").ends_with(note), "{told}");
+}
+
+#[test]
+fn a_comment_can_do_no_harm() {
+    let told = replayed("begin 0 32000 0 no\n# \u{1b}[2J away\n");
+    assert!(!told.contains('\u{1b}') && told.contains("[2J away"));
+}
+
+#[test]
+fn a_refused_begin_changes_nothing() {
+    let log = format!("{CHARGE}begin 50 1 0 no\ntick 60\n");
+    let told = told(&["replay", "-", "--only", "changes"], &log);
+    let table = told.split("\n\nsummary").next().expect("a table");
+    let lines: Vec<&str> = table.lines().skip(1).map(|row| row[..4].trim()).collect();
+    assert_eq!(lines, ["1", "4", "6", "7"]);
+}
+
+#[test]
+fn closings_just_the_pause_apart() {
+    let again = "fault 40 3\nclear 40\nsample 50 9000 9000\nsample 60 9000 9000\nsample 3030 6000 -12000\nsample 3040 6000 -12000\n";
+    let told = replayed(&format!("{CHARGE}{again}"));
+    line(&told, "spacing   shortest time between two closings 3,000 ms (at 40 and 3040); the pause is 3,000 ms: kept");
+}

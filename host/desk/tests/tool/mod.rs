@@ -1,0 +1,50 @@
+//! Runs the command.
+
+// Each test uses a part of it.
+#![allow(dead_code)]
+
+use std::io::Write;
+use std::process::{Command, Output, Stdio};
+
+/// B2 at 20.
+pub const PLUGGED: &str =
+    "begin 0 32000 3000 no\nlimit 0 32000\nsample 10 9000 9000\nsample 20 9000 9000\n";
+/// And closed at 40.
+pub const CHARGE: &str = "begin 0 32000 3000 no\nlimit 0 32000\nsample 10 9000 9000\nsample 20 9000 9000\nsample 30 6000 -12000\nsample 40 6000 -12000\n";
+
+pub fn tool() -> Command {
+    Command::new(env!("CARGO_BIN_EXE_chuldariin-desk"))
+}
+
+/// Runs the command with this standard input.
+pub fn run(words: &[&str], input: &[u8]) -> Output {
+    let mut tool = tool();
+    tool.args(words);
+    tool.stdin(Stdio::piped())
+        .stdout(Stdio::piped())
+        .stderr(Stdio::piped());
+    let mut child = tool.spawn().expect("the tool starts");
+    let mut stdin = child.stdin.take().expect("a pipe");
+    // A command that does not read its input may be gone by now.
+    let _ = stdin.write_all(input);
+    drop(stdin);
+    child.wait_with_output().expect("the tool ends")
+}
+
+pub fn text(bytes: &[u8]) -> String {
+    String::from_utf8(bytes.to_vec()).expect("UTF-8")
+}
+
+/// What it answers to this log; all must be well.
+pub fn told(words: &[&str], log: &str) -> String {
+    let output = run(words, log.as_bytes());
+    assert_eq!(output.status.code(), Some(0), "{}", text(&output.stderr));
+    text(&output.stdout)
+}
+
+/// The line that starts with these words.
+pub fn line<'a>(told: &'a str, start: &str) -> &'a str {
+    let mut lines = told.lines();
+    let found = lines.find(|line| line.trim_start().starts_with(start));
+    found.unwrap_or_else(|| panic!("{start}\n{told}"))
+}

@@ -1,0 +1,230 @@
+//! What `why` tells of each closing condition.
+
+use tool::{line, run, text, told, CHARGE, PLUGGED};
+
+mod tool;
+
+fn why(log: &str, at: &str) -> String {
+    told(&["why", "-", "--at", at], log)
+}
+
+/// A condition's yes or no, and what is behind it.
+fn says(told: &str, condition: &str, words: &str) {
+    let line = line(told, condition);
+    assert_eq!(line.split_at(27).1.trim(), words, "{told}");
+}
+
+/// The last line.
+fn waits(told: &str, words: &str) {
+    let last = format!("The contactor waits for {words}.");
+    assert_eq!(told.lines().last(), Some(last.as_str()));
+}
+
+#[test]
+fn after_begin() {
+    let told = why("begin 0 32000 3000 no\n", "0");
+    says(&told, "contactor open before", "yes");
+    says(&told, "not opened in this call", "yes");
+    says(&told, "a sample call", "no   begin 32,000 mA");
+    says(
+        &told,
+        "wave driven",
+        "no   +12 V: limit 0 mA is below 6,000, and no state is settled (U)",
+    );
+    says(&told, "this sample", "no   no sample in this call");
+    says(&told, "previous sample", "no   there is none since begin");
+    says(&told, "both in one band", "no   no sample in this call");
+    says(&told, "pause", "yes  not opened since begin");
+    waits(&told, "a limit of 6,000 mA or more (it is 0), a settled state (it is U) and two proven samples in a row in one band");
+}
+
+#[test]
+fn a_wave_that_is_not_driven() {
+    for (calls, steady, wanted) in [
+        (
+            "limit 0 6000\n",
+            "+12 V: no state is settled (U)",
+            "a settled state (it is U)",
+        ),
+        (
+            "limit 0 9000\nsample 10 12000 12000\nsample 20 12000 12000\n",
+            "+12 V: state A: no van is plugged in",
+            "a van (the state is A)",
+        ),
+        (
+            "limit 0 9000\nsample 10 3000 3000\nsample 20 3000 3000\n",
+            "+12 V: state D, and the post has no ventilation",
+            "another state than D, without ventilation",
+        ),
+        (
+            "limit 0 9000\nsample 10 0 0\nsample 20 0 0\n",
+            "+12 V: state E",
+            "another state than E",
+        ),
+        (
+            "limit 0 5999\nsample 10 9000 9000\nsample 20 9000 9000\n",
+            "+12 V: limit 5,999 mA is below 6,000",
+            "a limit of 6,000 mA or more (it is 5,999)",
+        ),
+        (
+            "fault 10 3\nfault 20 4\nlimit 20 9000\n",
+            "-12 V: fault latched: residual current, welded contact, and no state is settled (U)",
+            "a clear call (fault: residual current, welded contact), a settled state (it is U)",
+        ),
+    ] {
+        let told = why(&format!("begin 0 32000 3000 no\n{calls}"), "20");
+        says(&told, "wave driven", &format!("no   {steady}"));
+        waits(
+            &told,
+            &format!("{wanted} and two proven samples in a row in one band"),
+        );
+    }
+}
+
+#[test]
+fn a_sample_that_is_not_proven() {
+    for (levels, words) in [
+        ("9000 -12000", "no   high 9,000 mV is B, not a ready band"),
+        ("7200 -12000", "no   high 7,200 mV has no band"),
+        (
+            "3000 -12000",
+            "no   high 3,000 mV is D, and the post has no ventilation",
+        ),
+        (
+            "6000 -13001",
+            "no   low -13,001 mV is outside -13,000 to -11,000",
+        ),
+        ("6000 -13000", "yes  high 6,000 mV is C, low -13,000 mV"),
+    ] {
+        let told = why(&format!("{PLUGGED}sample 30 {levels}\n"), "30");
+        says(&told, "this sample", words);
+    }
+    let told = why("begin 0 32000 0 no\nsample 10 6000 6000\n", "10");
+    says(
+        &told,
+        "this sample",
+        "no   the wave was not driven before its call",
+    );
+    let ventilated = PLUGGED.replace("no", "yes");
+    let told = why(&format!("{ventilated}sample 30 3000 -12000\n"), "30");
+    says(
+        &told,
+        "this sample",
+        "yes  high 3,000 mV is D, low -12,000 mV",
+    );
+    says(&told, "both in one band", "no   B, then D");
+    waits(&told, "one more proven sample in D");
+}
+
+#[test]
+fn a_previous_sample_that_is_forgotten() {
+    let told = why(&format!("{CHARGE}tick 121\n"), "121");
+    says(&told, "contactor open before", "no");
+    says(&told, "not opened in this call", "no");
+    says(
+        &told,
+        "previous sample",
+        "no   it is forgotten in this call",
+    );
+    let told = why(
+        &format!("{CHARGE}sample 50 3000 -12000\nsample 60 3000 -12000\n"),
+        "60",
+    );
+    says(
+        &told,
+        "both in one band",
+        "no   the previous sample is forgotten in this call",
+    );
+    line(
+        &told,
+        "OPENED: state D, and the post has no ventilation (iii); line 8, at 60",
+    );
+    let ready = format!("{PLUGGED}sample 30 6000 -12000\nfault 35 3\n");
+    says(
+        &why(&ready, "35"),
+        "previous sample",
+        "no   it is forgotten in this call",
+    );
+    let told = why(&format!("{ready}tick 45\nsample 50 -12000 -12000\n"), "50");
+    says(
+        &told,
+        "previous sample",
+        "no   it was forgotten by the fault at 35",
+    );
+    says(
+        &told,
+        "both in one band",
+        "no   no previous sample, then no band",
+    );
+}
+
+#[test]
+fn the_pause_to_the_millisecond() {
+    let opened = format!("{CHARGE}tick 121\n");
+    let told = why(&format!("{opened}tick 3120\n"), "3120");
+    says(
+        &told,
+        "pause",
+        "no   1 ms left of 3,000, since the opening at 121",
+    );
+    waits(
+        &told,
+        "two proven samples in a row in one band and the end of the pause at 3121",
+    );
+    let told = why(&format!("{opened}tick 3121\n"), "3121");
+    says(
+        &told,
+        "pause",
+        "yes  over: opened at 121, 3,000 ms ago; the pause is 3,000 ms",
+    );
+    waits(&told, "two proven samples in a row in one band");
+    line(
+        &told,
+        "OPENED: 81 ms since the last sound sample (ii); line 7, at 121",
+    );
+    let again = format!("{opened}sample 3200 6000 -12000\nsample 3210 6000 -12000\n");
+    line(
+        &why(&again, "3220"),
+        "The contactor is closed since line 9, at 3210.",
+    );
+}
+
+#[test]
+fn refused_calls_are_told_and_no_more() {
+    let log = "begin 0 32000 0 no\ntick 20\nlimit 25 80001\nmeasure 26 200001\ntick 1000000000001\nlimit 90 80001\ntick 95\ntick 3\n";
+    let first = "; the first is line 3, limit 80,001 mA: REFUSED 7: a limit is at most 80,000 mA";
+    line(
+        &why(log, "40"),
+        &format!("after it 3 refused, which judge nothing{first}"),
+    );
+    line(
+        &why(log, "90"),
+        &format!("after it 4 refused, which judge nothing{first}"),
+    );
+    assert!(!why(log, "20").contains("limit 80,001"));
+    line(
+        &why(log, "99"),
+        "at 99: the last accepted call is line 7, tick at 95, 4 ms before",
+    );
+}
+
+#[test]
+fn what_can_not_be_asked() {
+    for words in [
+        &["why", "-", "--at", "+5"][..],
+        &["why", "-", "--at", "5", "--at", "6"],
+        &["why", "-", "--at", "5", "--line", "6"],
+        &["why", "-", "--line", "0"],
+    ] {
+        assert_eq!(
+            run(words, b"begin 0 32000 0 no\n").status.code(),
+            Some(2),
+            "{words:?}"
+        );
+    }
+    let none = run(&["why", "-", "--at", "5"], b"begin 0 1 0 no\n");
+    assert_eq!(
+        text(&none.stderr),
+        "chuldariin: no call of the log is accepted: nothing has begun\n"
+    );
+}
