@@ -3,12 +3,7 @@
 use crate::turn::{Sample, Turn};
 use crate::words::{faults, grouped, letter, refusal, why_steady, FAULTS, NUMERALS};
 use chuldariin_log::Call;
-use chuldariin_model::{reading, Reading, State};
-
-/// The age at which a stop opens the contactor, ms.
-const STOP: u64 = 3_000;
-/// The age at which an over-run latches fault 2, ms.
-const OVERRUN: u64 = 5_000;
+use chuldariin_model::{reading, Reading, State, OVERRUN_AGE, STOP_AGE};
 
 /// How a note stands out.
 #[derive(Clone, Copy, Debug, PartialEq, Eq)]
@@ -87,6 +82,9 @@ fn latched(turn: &Turn, notes: &mut Vec<Note>) {
     }
 }
 
+/// Where a low level is bad.
+pub const LOW_RULE: &str = "outside -13,000 to -11,000";
+
 /// A level that is not where a rule wants it.
 struct Off {
     name: &'static str,
@@ -99,7 +97,7 @@ fn low_off(sample: &Sample) -> Off {
     Off {
         name: "low",
         level: sample.low,
-        rule: "outside -13,000 to -11,000",
+        rule: LOW_RULE,
     }
 }
 
@@ -173,14 +171,6 @@ pub fn because(turn: &Turn, cause: usize) -> String {
     }
 }
 
-pub fn low_band(low: i32) -> bool {
-    (-13_000..=-11_000).contains(&low)
-}
-
-pub fn why_low(low: i32) -> String {
-    format!("low {} mV is outside -13,000 to -11,000", grouped(low))
-}
-
 /// What a closing rests on.
 pub fn closed(turn: &Turn) -> String {
     let band = letter(turn.sample.and_then(|sample| sample.verdict.band));
@@ -206,7 +196,7 @@ fn overrun(turn: &Turn, notes: &mut Vec<Note>) {
             "over-run starts: {} mA is above {}; fault 2 at {} unless it ends",
             grouped(*current),
             allowed(&turn.before),
-            start + OVERRUN
+            start + OVERRUN_AGE
         ),
         (Some(start), None, _) if !turn.told.latched[1] => {
             format!("over-run ends, {} ms old", grouped(turn.after.last - start))
@@ -234,7 +224,7 @@ fn stop(turn: &Turn, notes: &mut Vec<Note>) {
         (None, Some(start)) => format!(
             "stop starts: {}; opens at {} unless a wave is driven by then",
             why_steady(&turn.after),
-            start + STOP
+            start + STOP_AGE
         ),
         (Some(start), None) if !turn.told.causes[3] => {
             format!("stop ends, {} ms old", grouped(turn.after.last - start))

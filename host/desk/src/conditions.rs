@@ -1,10 +1,10 @@
 //! The closing conditions of a call, each with what it rests on.
 
-use crate::causes::{low_band, why_low};
+use crate::causes::LOW_RULE;
 use crate::turn::{Forgotten, Sample, Turn};
 use crate::words::{call, faults, grouped, letter, wave, why_steady};
 use chuldariin_log::Call;
-use chuldariin_model::{driven, Band, Conditions, State};
+use chuldariin_model::{driven, in_low_band, Band, Conditions, State, LEAST_CURRENT};
 
 /// One closing condition.
 pub struct Condition {
@@ -106,8 +106,8 @@ fn why_unproven(sample: &Sample, ventilation: bool) -> String {
     if !sample.driven {
         why.push("the wave was not driven before its call".to_string());
     }
-    if sample.driven && !low_band(sample.low) {
-        why.push(why_low(sample.low));
+    if sample.driven && !in_low_band(sample.low) {
+        why.push(format!("low {} mV is {LOW_RULE}", grouped(sample.low)));
     }
     match why.is_empty() {
         true => format!(
@@ -154,8 +154,8 @@ fn pause_detail(turn: &Turn) -> String {
     }
 }
 
-/// What an open contactor waits for, in one sentence.
-pub fn waits_for(turn: &Turn) -> String {
+/// What an open contactor waits for at a time, in one sentence.
+pub fn waits_for(turn: &Turn, now: u64) -> String {
     let after = &turn.after;
     let mut waits = waits_for_wave(after);
     match after.previous {
@@ -166,7 +166,7 @@ pub fn waits_for(turn: &Turn) -> String {
     }
     if let Some(opening) = after.opening {
         let end = opening.saturating_add(after.pause);
-        if end > after.last {
+        if end > now {
             waits.push(format!("the end of the pause at {end}"));
         }
     }
@@ -182,7 +182,7 @@ fn waits_for_wave(state: &State) -> Vec<String> {
     if state.any_fault() {
         waits.push(format!("a clear call (fault: {})", faults(&state.faults)));
     }
-    if state.rated.min(state.limit) < 6_000 {
+    if state.rated.min(state.limit) < LEAST_CURRENT {
         let limit = grouped(state.limit);
         waits.push(format!("a limit of 6,000 mA or more (it is {limit})"));
     }

@@ -1,12 +1,9 @@
 //! A log from a file or standard input, or what is wrong with it.
 
 use chuldariin_log::text::parse;
-use chuldariin_log::{Call, Entry, Line, Wrong};
+use chuldariin_log::{Call, Entry, Line, WrongLines};
 use std::fmt;
 use std::io::Read;
-
-/// So many wrong lines are shown.
-const SHOWN: usize = 10;
 
 /// A log that can be replayed: its first call is a begin.
 pub struct Log {
@@ -20,7 +17,7 @@ pub enum Unfit {
     Unread(std::io::Error),
     /// Two bytes a character.
     Utf16,
-    Lines(Vec<Wrong>),
+    Lines(WrongLines),
     /// No call at all.
     Empty,
     /// The line of the first call, which is no begin, and its word.
@@ -36,14 +33,7 @@ impl fmt::Display for Unfit {
         match self {
             Unfit::Unread(error) => write!(f, "can't be read: {error}"),
             Unfit::Utf16 => write!(f, "the log is UTF-16; expected UTF-8: save it as that"),
-            Unfit::Lines(wrong) => {
-                let lines: Vec<String> = wrong.iter().take(SHOWN).map(Wrong::to_string).collect();
-                write!(f, "{}", lines.join("\n"))?;
-                match wrong.len().saturating_sub(SHOWN) {
-                    0 => Ok(()),
-                    more => write!(f, "\nand {more} more wrong lines"),
-                }
-            }
+            Unfit::Lines(wrong) => wrong.fmt(f),
             Unfit::Empty => write!(
                 f,
                 "the log has no call; expected begin TIME RATED PAUSE yes|no, and the calls after it, one a line"

@@ -19,14 +19,15 @@ const FAILED: u8 = 1;
 const WRONG: u8 = 2;
 
 fn main() -> ExitCode {
-    let words: Vec<String> = std::env::args_os()
-        .skip(1)
-        .map(|word| word.to_string_lossy().into_owned())
-        .collect();
-    let told = match command(&words) {
+    let words = std::env::args_os().skip(1).map(|word| word.into_string());
+    let told = match words.collect::<Result<Vec<String>, _>>() {
+        Ok(words) => command(&words),
+        Err(word) => Err(format!("{word:?} is not UTF-8; expected names that are")),
+    };
+    let told = match told {
         Ok(command) => run(command),
         Err(what) => {
-            eprint!("chuldariin: {what}\n\n{USAGE}");
+            complain(&format!("{what}\n\n{USAGE}"));
             return ExitCode::from(WRONG);
         }
     };
@@ -35,11 +36,16 @@ fn main() -> ExitCode {
         // Whoever read the output has had enough of it.
         Err(error) if is_closed_pipe(&*error) => ExitCode::SUCCESS,
         Err(error) => {
-            eprintln!("chuldariin: {error}");
+            complain(&format!("{error}\n"));
             let wrong = error.is::<Unfit>() || error.is::<TooEarly>() || error.is::<NothingThere>();
             ExitCode::from(if wrong { WRONG } else { FAILED })
         }
     }
+}
+
+/// If nobody listens, the exit status has to do.
+fn complain(what: &str) {
+    let _ = write!(io::stderr(), "chuldariin: {what}");
 }
 
 fn is_closed_pipe(error: &(dyn Error + 'static)) -> bool {

@@ -73,3 +73,10 @@ impl Progress {
         }
     }
 }
+
+impl Drop for Progress {
+    /// Also a replay that breaks off leaves no line of it behind.
+    fn drop(&mut self) {
+        self.clear();
+    }
+}

@@ -44,14 +44,7 @@ pub fn replay(
             }
             Line::Call(call) => call,
         };
-        let turn = match post.turn(entry.line, call) {
-            Ok(turn) => turn,
-            Err(differs) => {
-                // What was shown up to here did happen.
-                out.flush()?;
-                return Err(differs.into());
-            }
-        };
+        let turn = post.turn(entry.line, call)?;
         summary.see(&turn);
         progress.step();
         let notes = since.notes(&turn);

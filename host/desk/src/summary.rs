@@ -17,9 +17,8 @@ impl Spacing {
         self.second - self.first
     }
 
-    /// How much longer than the pause.
-    fn spare(&self) -> i128 {
-        i128::from(self.apart()) - i128::from(self.pause)
+    fn kept(&self) -> bool {
+        self.apart() >= self.pause
     }
 }
 
@@ -36,6 +35,8 @@ pub struct Summary {
     refusals: [u64; 8],
     last_closing: Option<u64>,
     shortest: Option<Spacing>,
+    /// Closings that came too soon; the proofs say that there are none.
+    broken: u64,
     /// The last closing before the present list, where the clock runs on, and the shortest time from such a one.
     closing_before: Option<u64>,
     across: Option<u64>,
@@ -92,8 +93,9 @@ impl Summary {
                 second: time,
                 pause,
             };
+            self.broken += u64::from(!spacing.kept());
             self.shortest = match self.shortest {
-                Some(shortest) if shortest.spare() <= spacing.spare() => Some(shortest),
+                Some(shortest) if shortest.apart() <= spacing.apart() => Some(shortest),
                 _ => Some(spacing),
             };
         } else if let Some(first) = self.closing_before {
@@ -198,7 +200,7 @@ impl Summary {
                 spacing.first,
                 spacing.second,
                 grouped(spacing.pause),
-                if spacing.spare() >= 0 { "kept" } else { "NOT KEPT" }
+                if self.broken == 0 { "kept" } else { "NOT KEPT" }
             )
             }
         }

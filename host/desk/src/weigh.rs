@@ -1,17 +1,10 @@
 //! Window to levels, by sorting: the model's way is obvious, and too slow for a million windows.
 
-use chuldariin_model::Weighed;
-
-/// How far a supporter may lie from a reading, mV.
-pub const NEAR: i32 = 200;
-/// So many supporters, itself among them, make a reading supported.
-pub const ENOUGH: usize = 8;
-/// The ends of a reading, mV.
-pub const READING: i32 = 15_000;
+use chuldariin_model::{Weighed, ENOUGH, LONGEST, NEAR, READING_END, SHORTEST};
 
 /// High and low level, or refusal 4, 5 or 6.
 pub fn weigh(readings: &[i32]) -> Weighed {
-    if !(256..=1_024).contains(&readings.len()) {
+    if !(SHORTEST..=LONGEST).contains(&readings.len()) {
         return Err(4);
     }
     if !readings.iter().all(|&reading| in_range(reading)) {
@@ -34,5 +27,5 @@ pub fn weigh(readings: &[i32]) -> Weighed {
 }
 
 pub fn in_range(reading: i32) -> bool {
-    (-READING..=READING).contains(&reading)
+    (-READING_END..=READING_END).contains(&reading)
 }

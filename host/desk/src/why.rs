@@ -92,15 +92,34 @@ pub fn why(log: &Log, at: At, paint: Paint, out: &mut impl Write) -> Result<(), 
         let first = first_accepted(log)?;
         return Err(TooEarly { at, first }.into());
     };
+    heading(at, &last, found.refused.as_ref(), out)?;
+    match (last.reply.closed, &found.closing) {
+        (true, Some(closing)) => {
+            let (line, time) = (closing.line, closing.after.last);
+            writeln!(out, "The contactor is closed since line {line}, at {time}.")?;
+            writeln!(out, "{}", closed(closing))?;
+        }
+        _ => open(at, &last, found.opening.as_ref(), paint, out)?,
+    }
+    Ok(())
+}
+
+/// The last accepted call, what was refused after it, and what was told.
+fn heading(
+    at: At,
+    last: &Turn,
+    refused: Option<&(Turn, u64)>,
+    out: &mut impl Write,
+) -> io::Result<()> {
     writeln!(
         out,
         "at {at}: the last accepted call is line {}, {} at {}{}",
         last.line,
-        call(&last),
+        call(last),
         last.after.last,
-        earlier(at, &last)
+        earlier(at, last)
     )?;
-    if let Some((first, count)) = &found.refused {
+    if let Some((first, count)) = refused {
         writeln!(
             out,
             "after it {count} refused, which judge nothing; the first is line {}, {}: {}",
@@ -116,16 +135,7 @@ pub fn why(log: &Log, at: At, paint: Paint, out: &mut impl Write) -> Result<(), 
         state(last.reply.letter, last.reply.digit),
         wave(last.reply.wave),
         last.reply.closings
-    )?;
-    match (last.reply.closed, &found.closing) {
-        (true, Some(closing)) => {
-            let (line, time) = (closing.line, closing.after.last);
-            writeln!(out, "The contactor is closed since line {line}, at {time}.")?;
-            writeln!(out, "{}", closed(closing))?;
-        }
-        _ => open(&last, found.opening.as_ref(), paint, out)?,
-    }
-    Ok(())
+    )
 }
 
 /// How long before the time that was asked for.
@@ -145,7 +155,13 @@ fn told(turn: &Turn, kind: Kind) -> String {
     note.map_or(String::new(), |note| note.words)
 }
 
-fn open(last: &Turn, opening: Option<&Turn>, paint: Paint, out: &mut impl Write) -> io::Result<()> {
+fn open(
+    at: At,
+    last: &Turn,
+    opening: Option<&Turn>,
+    paint: Paint,
+    out: &mut impl Write,
+) -> io::Result<()> {
     if let Some(opening) = opening {
         let (line, time) = (opening.line, opening.after.last);
         let words = told(opening, Kind::Opened);
@@ -159,7 +175,11 @@ fn open(last: &Turn, opening: Option<&Turn>, paint: Paint, out: &mut impl Write)
         let line = format!("  {:<24} {holds}  {}", condition.name, condition.detail);
         writeln!(out, "{}", line.trim_end())?;
     }
-    writeln!(out, "\nThe contactor waits for {}.", waits_for(last))
+    let now = match at {
+        At::Time(time) => time,
+        At::Line(_) => last.after.last,
+    };
+    writeln!(out, "\nThe contactor waits for {}.", waits_for(last, now))
 }
 
 /// Replays up to there. Where a time fits several lists, the last of them counts.

@@ -1,10 +1,10 @@
 //! Numbers, waves, faults and refusals in words.
 
 use crate::turn::Turn;
-use crate::weigh::{in_range, ENOUGH, NEAR};
+use crate::weigh::in_range;
 use chuldariin::{reading, Reading};
 use chuldariin_log::{Call, Room, Window};
-use chuldariin_model::{Band, State};
+use chuldariin_model::{Band, State, ENOUGH, LEAST_CURRENT, LONGEST, NEAR, READING_END, SHORTEST};
 
 /// Each fault in words, by its number less 1.
 pub const FAULTS: [&str; 5] = [
@@ -120,7 +120,7 @@ pub fn why_steady(state: &State) -> String {
     if state.any_fault() {
         why.push(format!("fault latched: {}", faults(&state.faults)));
     }
-    if state.rated.min(state.limit) < 6_000 {
+    if state.rated.min(state.limit) < LEAST_CURRENT {
         why.push(format!("limit {} mA is below 6,000", grouped(state.limit)));
     }
     match state.settled {
@@ -167,8 +167,9 @@ pub fn refusal(turn: &Turn) -> String {
         ),
         (3, _) => "the time is above 1,000,000,000,000 ms".to_string(),
         (4, Call::Sample(_, window)) => format!(
-            "{} readings, where 256 to 1,024 are allowed",
-            grouped(window.length() as u64)
+            "{} readings, where {SHORTEST} to {} are allowed",
+            grouped(window.length() as u64),
+            grouped(LONGEST as u64)
         ),
         (5, Call::Sample(_, window)) => bad_reading(window),
         (6, _) => {
@@ -203,9 +204,11 @@ fn bad_reading(window: &Window) -> String {
     let mut readings = window.readings(&mut room).iter().enumerate();
     match readings.find(|reading| !in_range(*reading.1)) {
         Some((place, reading)) => format!(
-            "reading {} is {} mV, where -15,000 to 15,000 are allowed",
+            "reading {} is {} mV, where {} to {} are allowed",
             place + 1,
-            grouped(*reading)
+            grouped(*reading),
+            grouped(-READING_END),
+            grouped(READING_END)
         ),
         None => "a reading is out of range".to_string(),
     }

@@ -2,6 +2,7 @@
 
 use std::fs::{self, File};
 use std::io::Read;
+use std::os::unix::ffi::OsStrExt;
 use std::path::PathBuf;
 use std::process::{Output, Stdio};
 use tool::{run, text, tool, CHARGE};
@@ -14,7 +15,7 @@ fn replay(log: &[u8]) -> Output {
 
 /// A file of this test alone.
 fn file(name: &str, content: &[u8]) -> PathBuf {
-    let folder = std::env::temp_dir().join(format!("chuldariin-desk-{}", std::process::id()));
+    let folder = PathBuf::from(env!("CARGO_TARGET_TMPDIR")).join("command");
     fs::create_dir_all(&folder).expect("a folder");
     let path = folder.join(name);
     fs::write(&path, content).expect("a file");
@@ -426,6 +427,62 @@ fn over_runs_and_stops_are_told_from_start_to_end() {
     ] {
         let row = shown.lines().nth(line).expect("a line for each call");
         assert!(row.ends_with(words), "{row}");
+    }
+}
+
+#[test]
+fn a_part_that_ends_before_it_starts() {
+    let output = run(&["plot", "-", "-o", "-", "--from", "5", "--to", "1"], b"");
+    assert_eq!(output.status.code(), Some(2));
+    let said = "chuldariin: --from 5 is after --to 1; expected an earlier --from\n";
+    assert!(text(&output.stderr).starts_with(said));
+}
+
+#[test]
+fn a_name_that_is_not_utf_8() {
+    let name = std::ffi::OsStr::from_bytes(b"\xfe.svg");
+    let output = tool().args(["plot", "-", "-o"]).arg(name).output();
+    let output = output.expect("the tool ends");
+    assert_eq!(output.status.code(), Some(2));
+    assert!(text(&output.stderr).starts_with("chuldariin: \"\\xFE.svg\" is not UTF-8"));
+}
+
+#[test]
+fn nobody_listens() {
+    let mut tool = tool();
+    tool.args(["replay", "nowhere.log"]).stderr(Stdio::piped());
+    let mut child = tool.spawn().expect("the tool starts");
+    drop(child.stderr.take());
+    assert_eq!(child.wait().expect("the tool ends").code(), Some(2));
+}
+
+#[test]
+fn more_logs_that_are_wrong() {
+    for (log, said) in [
+        (&b"\xfe\xff\0t"[..], "standard input: the log is UTF-16;"),
+        (
+            b"clear 5\n",
+            "standard input: line 1: the first call is clear;",
+        ),
+        (
+            b"begin 0 32000 0 no\nclear 1 2\n",
+            "standard input: line 2: '2' is one value too many;",
+        ),
+        (
+            b"begin 0 32000 0 y\n",
+            "standard input: line 1: 'y' is neither yes nor no;",
+        ),
+        (
+            b"begin 0 32000 0 no\nmeasured 1 2\n",
+            "standard input: line 2: 'measured' is no call;",
+        ),
+    ] {
+        let output = replay(log);
+        assert_eq!(output.status.code(), Some(2));
+        assert!(
+            text(&output.stderr).starts_with(&format!("chuldariin: {said}")),
+            "{said}"
+        );
     }
 }
 

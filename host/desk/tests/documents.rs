@@ -25,13 +25,14 @@ fn blocks(document: &str) -> Vec<Vec<&str>> {
 
 /// What a command answers. The demo writes to a folder of this test.
 fn answer(command: &str) -> String {
-    let folder = std::env::temp_dir().join(format!("chuldariin-documents-{}", std::process::id()));
+    let folder = PathBuf::from(env!("CARGO_TARGET_TMPDIR")).join("documents");
     let mut tool = Command::new(env!("CARGO_BIN_EXE_chuldariin-desk"));
     tool.args(command.split(' ')).current_dir(top());
     if command == "demo" {
         tool.arg(folder);
     }
     let output = tool.output().expect("the tool ends");
+    assert!(output.status.success(), "{command}");
     String::from_utf8([output.stdout, output.stderr].concat()).expect("UTF-8")
 }
 

@@ -169,3 +169,64 @@ fn of_many_openings_the_first_are_listed() {
         "the numbers stand apart"
     );
 }
+
+#[test]
+fn what_goes_before_the_first_begin_has_no_place() {
+    let svg = picture(
+        "begin 0 1 0 no\ntick 5\nbegin 1000000 32000 0 no\ntick 1000100\n",
+        WHOLE,
+    );
+    assert!(
+        svg.contains(">2 calls, 1,000,000 to 1,000,100 ms: 0 closings, 0 openings, 0 refused<"),
+        "{svg}"
+    );
+    let svg = picture("begin 7 32000 0 no\ntick 7\n", WHOLE);
+    assert!(svg.contains(">2 calls, 7 to 7 ms:"), "{svg}");
+}
+
+#[test]
+fn a_log_of_many_lifetimes_has_few_labels() {
+    let list = "begin 0 32000 0 no\ntick 1000000000000\n";
+    let svg = picture(&list.repeat(1_000), WHOLE);
+    assert!(svg.matches(" d</text>").count() < 20, "{svg}");
+}
+
+#[test]
+fn a_short_opening_is_seen_between_long_closings() {
+    let mut log = CHARGE
+        .replace("limit 500 20000\ntick 1000\n", "")
+        .replace("3000 no", "1000 no");
+    for time in (50..100_000).step_by(50) {
+        // Unsound for 100 ms in the middle, and closed again a second later.
+        let high = if (50_000..50_100).contains(&time) {
+            9_000
+        } else {
+            6_000
+        };
+        log.push_str(&format!("sample {time} {high} -12000\n"));
+    }
+    let svg = picture(&log, WHOLE);
+    let strip: Vec<&str> = svg
+        .lines()
+        .filter(|line| line.contains("y=\"552.0\"") && line.contains("<title>"))
+        .collect();
+    let places = |line: &str| {
+        let number = |name: &str| {
+            let part = line.split(&format!("{name}=\"")).nth(1).expect(name);
+            part.split('"')
+                .next()
+                .and_then(|number| number.parse::<f64>().ok())
+                .expect(name)
+        };
+        (number("x"), number("width"))
+    };
+    let spans: Vec<(f64, f64)> = strip.iter().map(|line| places(line)).collect();
+    // Open, closed, open, closed; none covers another.
+    assert_eq!(spans.len(), 4, "{strip:?}");
+    assert!(
+        spans
+            .windows(2)
+            .all(|two| two[0].0 + two[0].1 <= two[1].0 + 0.011),
+        "{spans:?}"
+    );
+}

@@ -2,7 +2,7 @@
 
 use crate::call::Call;
 use crate::window::Room;
-use chuldariin_model::{begin, Begin, Conditions, Reply, State, Told, Weighed};
+use chuldariin_model::{begin, Begin, Reply, State, Told, Weighed};
 
 /// What the model keeps and tells, with this way to find the levels of a window.
 pub fn answer(
@@ -24,13 +24,5 @@ fn answer_begin(state: &State, b: &Begin) -> (State, Told) {
         Ok(fresh) => fresh,
         Err(refusal) => (*state, Reply::alone(refusal)),
     };
-    let told = Told {
-        reply,
-        causes: [false; 5],
-        opened: false,
-        closing: false,
-        latched: [false; 5],
-        conditions: Conditions::default(),
-    };
-    (state, told)
+    (state, Told::nothing(reply))
 }

@@ -5,7 +5,7 @@
 //! | `call` | a call with its arguments |
 //! | `window` | the readings of a sample |
 //! | `text` | a log as text, one call a line |
-//! | `wrong` | what is wrong with a line, and what is expected |
+//! | `wrong` | what is wrong with a log, line by line, and what is expected |
 //! | `ask` | a call put to the archive |
 //! | `answer` | a call put to the model |
 //! | `meaning` | what the archive's controller means, as the model's state |
@@ -23,4 +23,4 @@ pub mod wrong;
 pub use call::Call;
 pub use text::{Entry, Line};
 pub use window::{Room, Window};
-pub use wrong::Wrong;
+pub use wrong::{Wrong, WrongLines};

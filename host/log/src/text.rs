@@ -16,7 +16,7 @@
 
 use crate::call::Call;
 use crate::window::Window;
-use crate::wrong::Wrong;
+use crate::wrong::{Wrong, WrongLines};
 use chuldariin_model::Begin;
 use std::fmt;
 use std::str::{FromStr, SplitAsciiWhitespace};
@@ -93,8 +93,8 @@ pub fn print(calls: &[Call]) -> String {
     text
 }
 
-/// The calls of a text, or all that is wrong with it.
-pub fn calls(text: &str) -> Result<Vec<Call>, Vec<Wrong>> {
+/// The calls of a text, or what is wrong with it.
+pub fn calls(text: &str) -> Result<Vec<Call>, WrongLines> {
     let call = |entry: Entry| match entry.what {
         Line::Call(call) => Some(call),
         Line::Comment(_) => None,
@@ -105,20 +105,20 @@ pub fn calls(text: &str) -> Result<Vec<Call>, Vec<Wrong>> {
         .collect())
 }
 
-/// The lines of a text, or all that is wrong with it.
-pub fn parse(text: &[u8]) -> Result<Vec<Entry>, Vec<Wrong>> {
+/// The lines of a text, or what is wrong with it.
+pub fn parse(text: &[u8]) -> Result<Vec<Entry>, WrongLines> {
     // The mark that some editors put before UTF-8.
     let text = text.strip_prefix(b"\xef\xbb\xbf").unwrap_or(text);
-    let (mut entries, mut wrong) = (Vec::new(), Vec::new());
+    let (mut entries, mut wrong) = (Vec::new(), WrongLines::default());
     for (place, bytes) in text.split(|&byte| byte == b'\n').enumerate() {
         let line = place + 1;
         match parse_line(line, bytes.strip_suffix(b"\r").unwrap_or(bytes)) {
             Ok(Some(what)) => entries.push(Entry { line, what }),
             Ok(None) => {}
-            Err(told) => wrong.push(told),
+            Err(told) => wrong.add(told),
         }
     }
-    if wrong.is_empty() {
+    if wrong.first.is_empty() {
         Ok(entries)
     } else {
         Err(wrong)
@@ -183,7 +183,8 @@ fn parse_call(line: usize, word: &str, words: SplitAsciiWhitespace) -> Result<Ca
         "measure" => Call::Measure(time, values.number("MA")?),
         "fault" => Call::Fault(time, values.number("KIND")?),
         "clear" => Call::Clear(time),
-        _ => Call::Tick(time),
+        "tick" => Call::Tick(time),
+        _ => unreachable!("a form without its call"),
     };
     values.end()?;
     Ok(call)

@@ -1,4 +1,4 @@
-//! What is wrong with a line, and what is expected.
+//! What is wrong with a log, line by line, and what is expected.
 
 use std::fmt;
 
@@ -18,5 +18,35 @@ impl fmt::Display for Wrong {
             "line {}: {}; expected {}",
             self.line, self.what, self.expected
         )
+    }
+}
+
+/// So many wrong lines are kept.
+const KEPT: usize = 10;
+
+/// The wrong lines of a log: the first of them, and how many more there are.
+#[derive(Clone, Debug, Default, PartialEq, Eq)]
+pub struct WrongLines {
+    pub first: Vec<Wrong>,
+    pub more: usize,
+}
+
+impl WrongLines {
+    pub fn add(&mut self, wrong: Wrong) {
+        match self.first.len() < KEPT {
+            true => self.first.push(wrong),
+            false => self.more += 1,
+        }
+    }
+}
+
+impl fmt::Display for WrongLines {
+    fn fmt(&self, f: &mut fmt::Formatter<'_>) -> fmt::Result {
+        let lines: Vec<String> = self.first.iter().map(Wrong::to_string).collect();
+        write!(f, "{}", lines.join("\n"))?;
+        match self.more {
+            0 => Ok(()),
+            more => write!(f, "\nand {more} more wrong lines"),
+        }
     }
 }

@@ -80,15 +80,15 @@ fn every_line_that_is_no_call_is_told() {
     for (line, said) in WRONG {
         let text = format!("tick 0\n{line}\ntick 2\n");
         let wrong = calls(&text).expect_err(line);
-        assert_eq!(wrong.len(), 1, "{line}");
-        assert_eq!(wrong[0].to_string(), format!("line 2: {said}"));
+        assert_eq!((wrong.first.len(), wrong.more), (1, 0), "{line}");
+        assert_eq!(wrong.first[0].to_string(), format!("line 2: {said}"));
     }
 }
 
 #[test]
 fn all_wrong_lines_are_told_in_their_order() {
     let wrong = calls("step 1\ntick 1\n\n# tick\ntick\n").expect_err("two lines are wrong");
-    let lines: Vec<usize> = wrong.iter().map(|wrong| wrong.line).collect();
+    let lines: Vec<usize> = wrong.first.iter().map(|wrong| wrong.line).collect();
     assert_eq!(lines, [1, 5]);
 }
 
@@ -96,7 +96,7 @@ fn all_wrong_lines_are_told_in_their_order() {
 fn bytes_that_are_no_text() {
     let wrong = parse(b"tick 1\ntick \xff\n").expect_err("0xff is in no UTF-8");
     assert_eq!(
-        wrong[0].to_string(),
+        wrong.first[0].to_string(),
         "line 2: byte 6 (0xff) is not UTF-8; expected text in UTF-8"
     );
 }

@@ -83,6 +83,20 @@ pub struct Told {
     pub conditions: Conditions,
 }
 
+impl Told {
+    /// A reply beside which no step was done.
+    pub fn nothing(reply: Reply) -> Told {
+        Told {
+            reply,
+            causes: [false; 5],
+            opened: false,
+            closing: false,
+            latched: [false; 5],
+            conditions: Conditions::default(),
+        }
+    }
+}
+
 /// A fresh controller with its reply, or the refusal number alone.
 pub fn begin(b: &Begin) -> Result<(State, Reply), u8> {
     let refusal = refusal_of_begin(b.time, b.rated, b.pause);
@@ -124,7 +138,7 @@ impl State {
         event: &Event,
     ) -> (State, Told) {
         match check(self, weigh, time, event) {
-            Err(refusal) => (*self, self.refused(refusal)),
+            Err(refusal) => (*self, Told::nothing(Reply::of(self, refusal))),
             Ok(levels) => {
                 let run = run(self, time, event, levels);
                 let told = Told {
@@ -137,18 +151,6 @@ impl State {
                 };
                 (run.state, told)
             }
-        }
-    }
-
-    /// A refused call: no step was done, and the reply is as lent.
-    fn refused(&self, refusal: u8) -> Told {
-        Told {
-            reply: Reply::of(self, refusal),
-            causes: [false; 5],
-            opened: false,
-            closing: false,
-            latched: [false; 5],
-            conditions: Conditions::default(),
         }
     }
 }

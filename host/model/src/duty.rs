@@ -14,7 +14,7 @@ const LEAST: u32 = 100;
 const GREATEST: u32 = 960;
 
 /// No duty is given for a current below this one, in mA.
-const LEAST_CURRENT: u32 = 6_000;
+pub const LEAST_CURRENT: u32 = 6_000;
 
 /// Is this wave command a driven square wave?
 pub fn driven(wave: u32) -> bool {

@@ -70,9 +70,9 @@ mod table;
 mod window;
 
 pub use call::{begin, Begin, Reply, Told};
-pub use duty::{driven, duty_for, reading, Reading};
-pub use pilot::{band, verdict, Band, Verdict};
+pub use duty::{driven, duty_for, reading, Reading, LEAST_CURRENT};
+pub use pilot::{band, in_low_band, verdict, Band, Verdict};
 pub use state::{Event, State};
-pub use steps::Conditions;
+pub use steps::{Conditions, OVERRUN_AGE, SOUND_AGE, STOP_AGE};
 pub use table::refusal_of_call;
-pub use window::{levels, Weighed};
+pub use window::{levels, Weighed, ENOUGH, LONGEST, NEAR, READING_END, SHORTEST};

@@ -34,7 +34,7 @@ pub fn band(high: i32) -> Option<Band> {
 }
 
 /// Is a low level in the low band?
-fn in_low_band(low: i32) -> bool {
+pub fn in_low_band(low: i32) -> bool {
     (-13_000..=-11_000).contains(&low)
 }
 

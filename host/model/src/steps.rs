@@ -8,11 +8,11 @@ use crate::pilot::{same_band, verdict, Band, Verdict};
 use crate::state::{Event, State};
 
 /// An over-run so old latches fault 2, ms.
-const OVERRUN_AGE: u64 = 5_000;
+pub const OVERRUN_AGE: u64 = 5_000;
 /// The last sound sample may be so old with the contactor closed, ms.
-const SOUND_AGE: u64 = 80;
+pub const SOUND_AGE: u64 = 80;
 /// A stop so old opens the contactor, ms.
-const STOP_AGE: u64 = 3_000;
+pub const STOP_AGE: u64 = 3_000;
 /// Wave commands that are not driven.
 const STEADY_LOW: u32 = 0;
 const STEADY_HIGH: u32 = 1_000;

@@ -1,17 +1,17 @@
 //! Window to levels.
 
 /// Fewest and most readings of a window.
-const SHORTEST: usize = 256;
-const LONGEST: usize = 1_024;
+pub const SHORTEST: usize = 256;
+pub const LONGEST: usize = 1_024;
 
 /// A reading is in range from minus this to plus this, in mV.
-const READING_END: i32 = 15_000;
+pub const READING_END: i32 = 15_000;
 
 /// How far a supporter may lie from the reading it supports, in mV.
-const NEAR: i32 = 200;
+pub const NEAR: i32 = 200;
 
 /// So many supporters, itself among them, make a reading supported.
-const ENOUGH: usize = 8;
+pub const ENOUGH: usize = 8;
 
 /// High and low level of a window, or refusal 4, 5 or 6.
 pub type Weighed = Result<(i32, i32), u8>;

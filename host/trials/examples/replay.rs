@@ -17,7 +17,7 @@ fn main() -> Result<(), String> {
     let read = std::io::stdin().read_to_string(&mut text);
     read.map_err(|error| error.to_string())?;
     let mut pair = Pair::of(Controller::ZEROED);
-    let calls = calls(&text).map_err(|wrong| wrong[0].to_string())?;
+    let calls = calls(&text).map_err(|wrong| wrong.to_string())?;
     for call in calls {
         match pair.step(&call) {
             Ok(seen) => println!("{call}\n# {}", told(&seen.told.reply)),

@@ -56,8 +56,7 @@ const WANTED: [(&str, &[&str]); 11] = [
 fn both_sides_agree_on_every_list() {
     let mut tally = Tally::default();
     let mut reports = Vec::new();
-    for style in 0..STYLES.len() {
-        let (name, _, scenes) = STYLES[style];
+    for (style, (name, _, scenes)) in STYLES.into_iter().enumerate() {
         // A style ends at its first difference, and all of them at the third.
         let written = seeds(style)
             .try_for_each(|seed| write(name, seed, &mut tally, |author| list(author, scenes)));

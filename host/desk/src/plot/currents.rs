@@ -19,36 +19,30 @@ pub fn draw(svg: &mut Svg, track: &Track, scale: &Scale) {
     };
     for amps in [0, most / 2, most] {
         let y = panel.y(f64::from(amps) * 1_000.0);
+        let label = format!("{amps} A");
         svg.line((LEFT, y), (RIGHT, y), "grid");
-        svg.text(
-            LEFT - 8.0,
-            y + 4.0,
-            12.0,
-            Anchor::End,
-            "",
-            &format!("{amps} A"),
-        );
+        svg.text(LEFT - 8.0, y + 4.0, 12.0, Anchor::End, "", &label);
     }
     svg.text(8.0, CURRENTS - 6.0, 12.0, Anchor::Start, "title", "current");
-    let line = |runs: &[Run<u32>]| {
-        let points = runs
-            .iter()
-            .map(|run| (scale.x(run.0), panel.y(run.1.into())));
-        steps(points, scale.x(track.end))
-    };
+    lines(svg, track, scale, &panel);
+    svg.frame(LEFT, panel.top, RIGHT - LEFT, panel.height);
+    legend(svg);
+}
+
+fn lines(svg: &mut Svg, track: &Track, scale: &Scale, panel: &Panel) {
+    let place = |run: &Run<u32>| (scale.x(run.0), panel.y(run.1.into()));
+    let line = |runs: &[Run<u32>]| steps(runs.iter().map(place), scale.x(track.end));
     svg.path(&line(&track.rated), "rated");
     svg.path(&line(&track.announced), "announced");
     svg.path(&line(&track.limit), "limit");
-    let dot = |measured: &(u64, u32)| Point {
-        x: scale.x(measured.0),
-        y: panel.y(measured.1.into()),
+    let dot = |measured: &Run<u32>| Point {
+        x: place(measured).0,
+        y: place(measured).1,
         joined: false,
     };
     for dot in thin(track.measured.iter().map(dot)) {
         svg.circle(dot.x, dot.y, 2.2, "measured");
     }
-    svg.frame(LEFT, panel.top, RIGHT - LEFT, panel.height);
-    legend(svg);
 }
 
 /// The least end that all currents stay below.

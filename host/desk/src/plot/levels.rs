@@ -30,6 +30,18 @@ const PANEL: Panel = Panel {
 };
 
 pub fn draw(svg: &mut Svg, track: &Track, scale: &Scale) {
+    bands(svg);
+    for edge in SOUND {
+        let y = PANEL.y(edge.into());
+        svg.line((LEFT, y), (RIGHT, y), "edge");
+    }
+    volts(svg);
+    svg.text(8.0, PANEL.top + 12.0, 12.0, Anchor::Start, "title", "pilot");
+    lines(svg, track, scale);
+    svg.frame(LEFT, PANEL.top, RIGHT - LEFT, PANEL.height);
+}
+
+fn bands(svg: &mut Svg) {
     for (name, least, most, colour) in BANDS {
         let top = PANEL.y(most.into());
         let height = PANEL.y(least.into()) - top;
@@ -37,19 +49,15 @@ pub fn draw(svg: &mut Svg, track: &Track, scale: &Scale) {
         svg.fill(LEFT, top, RIGHT - LEFT, height, colour);
         svg.text(x, y, 12.0, Anchor::Start, "faint", name);
     }
-    for edge in SOUND {
-        let y = PANEL.y(edge.into());
-        svg.line((LEFT, y), (RIGHT, y), "edge");
-    }
+}
+
+fn volts(svg: &mut Svg) {
     for volts in [-12, -9, -6, -3, 0, 3, 6, 9, 12] {
         let y = PANEL.y(f64::from(volts) * 1_000.0);
         let label = format!("{volts} V");
         svg.line((LEFT - 4.0, y), (LEFT, y), "frame");
         svg.text(LEFT - 8.0, y + 4.0, 12.0, Anchor::End, "", &label);
     }
-    svg.text(8.0, PANEL.top + 12.0, 12.0, Anchor::Start, "title", "pilot");
-    lines(svg, track, scale);
-    svg.frame(LEFT, PANEL.top, RIGHT - LEFT, PANEL.height);
 }
 
 fn lines(svg: &mut Svg, track: &Track, scale: &Scale) {

@@ -2,7 +2,7 @@
 
 use super::scale::Scale;
 use super::svg::{Anchor, Svg};
-use super::track::{Kind, Mark, Track};
+use super::track::{Mark, Sign, Track};
 use super::{AXIS, CAUSES, CURRENTS, CURRENTS_END, LEFT, LEVELS, LEVELS_END, STRIPS};
 use crate::words::{counted, grouped};
 
@@ -30,14 +30,14 @@ pub fn draw(svg: &mut Svg, track: &Track, scale: &Scale) {
     let mut number = 0;
     for mark in &track.marks {
         let x = scale.x(mark.at);
-        number += u64::from(mark.kind == Kind::Opened);
+        number += u64::from(mark.sign == Sign::Opened);
         // Lines closer than half a pixel are one.
-        let last = &mut drawn[mark.kind as usize];
+        let last = &mut drawn[mark.sign as usize];
         if x - *last >= 0.5 {
             *last = x;
-            svg.told_lines(x, parts, class(mark.kind), &mark.words);
+            svg.told_lines(x, parts, class(mark.sign), &mark.words);
         }
-        if mark.kind == Kind::Opened {
+        if mark.sign == Sign::Opened {
             labelled = label(svg, x, number, labelled);
         }
     }
@@ -55,41 +55,27 @@ fn label(svg: &mut Svg, x: f64, number: u64, labelled: f64) -> f64 {
     x + half_width
 }
 
-fn class(kind: Kind) -> &'static str {
-    match kind {
-        Kind::Begun => "begun",
-        Kind::Closed => "closed",
-        Kind::Opened => "opened",
+fn class(sign: Sign) -> &'static str {
+    match sign {
+        Sign::Begun => "begun",
+        Sign::Closed => "closed",
+        Sign::Opened => "opened",
     }
 }
 
 /// The openings with their causes; the end of the picture.
 pub fn list(svg: &mut Svg, track: &Track) -> f64 {
-    let opened = |mark: &&Mark| mark.kind == Kind::Opened;
+    let opened = |mark: &&Mark| mark.sign == Sign::Opened;
     let openings = track.marks.iter().filter(opened).enumerate();
     let heading = match track.openings {
-        0 => "No opening; closings are green, begins dotted".to_string(),
-        openings => format!(
-            "{} (red); closings are green, begins dotted",
-            counted(openings, "opening")
-        ),
+        0 => "No opening".to_string(),
+        openings => format!("{} (red)", counted(openings, "opening")),
     };
+    let heading = format!("{heading}; closings are green, begins dotted");
     svg.text(LEFT, CAUSES, 12.0, Anchor::Start, "title", &heading);
     let mut y = CAUSES + LINE + 2.0;
     for (place, mark) in openings.take(LISTED) {
-        let number = (place + 1).to_string();
-        let time = format!("{} ms", track.origin + mark.at);
-        let words = mark.words.strip_prefix("OPENED: ").unwrap_or(&mark.words);
-        let words = match track.anew {
-            true => format!("{words} (the post's clock: {})", mark.time),
-            false => words.to_string(),
-        };
-        svg.text(LEFT + 16.0, y, 12.0, Anchor::End, "", &number);
-        svg.text(LEFT + 140.0, y, 12.0, Anchor::End, "", &time);
-        for line in wrapped(&words) {
-            svg.text(LEFT + 152.0, y, 12.0, Anchor::Start, "", &line);
-            y += LINE;
-        }
+        y = listed(svg, track, place + 1, mark, y);
     }
     match track.openings.saturating_sub(LISTED as u64) {
         0 => y,
@@ -99,6 +85,24 @@ pub fn list(svg: &mut Svg, track: &Track) -> f64 {
             y + LINE
         }
     }
+}
+
+/// One opening; where the next one stands.
+fn listed(svg: &mut Svg, track: &Track, number: usize, mark: &Mark, y: f64) -> f64 {
+    let time = format!("{} ms", track.origin + mark.at);
+    let words = mark.words.strip_prefix("OPENED: ").unwrap_or(&mark.words);
+    let words = match track.anew {
+        true => format!("{words} (the post's clock: {})", mark.time),
+        false => words.to_string(),
+    };
+    svg.text(LEFT + 16.0, y, 12.0, Anchor::End, "", &number.to_string());
+    svg.text(LEFT + 140.0, y, 12.0, Anchor::End, "", &time);
+    let mut below = y;
+    for line in wrapped(&words) {
+        svg.text(LEFT + 152.0, below, 12.0, Anchor::Start, "", &line);
+        below += LINE;
+    }
+    below
 }
 
 /// A text in lines that there is room for.

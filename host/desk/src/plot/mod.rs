@@ -95,7 +95,7 @@ fn title(svg: &mut Svg, track: &Track, name: &str) {
         0 | 1 => String::new(),
         begins => format!("{begins} begins, "),
     };
-    let (first, last) = (track.origin, track.origin + track.end);
+    let (first, last) = (track.origin, track.last);
     let times = format!("{} to {} ms", grouped(first), grouped(last));
     let words = format!(
         "{begins}{}, {times}: {}, {}, {} refused",

@@ -97,8 +97,12 @@ impl Scale {
 
     /// The least step that leaves room for the labels.
     fn step(&self) -> u64 {
+        let longest = STEPS[STEPS.len() - 1];
         let fits = |step: &&u64| self.x(**step) - self.x(0) >= ROOM;
-        *STEPS.iter().find(fits).unwrap_or(&STEPS[STEPS.len() - 1])
+        match STEPS.iter().find(fits) {
+            Some(step) => *step,
+            None => longest * (self.span / longest / 10 + 1),
+        }
     }
 }
 
@@ -122,9 +126,8 @@ pub struct Panel {
 }
 
 impl Panel {
-    /// The place of a value; one outside stands at the edge.
+    /// The place of a value.
     pub fn y(&self, value: f64) -> f64 {
-        let value = value.clamp(self.least, self.most);
         self.top + self.height * (self.most - value) / (self.most - self.least)
     }
 }

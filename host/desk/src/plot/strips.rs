@@ -105,15 +105,16 @@ fn strip<T>(
         let Some(part) = shown(&span.value) else {
             continue;
         };
-        let width = (span.to - span.from).max(NARROW);
-        // Of several that would stand in the same place the first is drawn.
-        if span.from + width <= drawn + NARROW / 2.0 {
+        // A narrow part is seen, and what follows it is drawn beside it.
+        let from = span.from.max(drawn);
+        let width = (span.to - from).max(NARROW);
+        if span.to <= from && span.from < from {
             continue;
         }
-        drawn = span.from + width;
-        svg.told_fill(span.from, top, width, HEIGHT, part.colour, &part.long);
+        drawn = from + width;
+        svg.told_fill(from, top, width, HEIGHT, part.colour, &part.long);
         if let Some(label) = part.label(width) {
-            let x = span.from + width / 2.0;
+            let x = from + width / 2.0;
             svg.text(x, top + 13.0, 11.0, Anchor::Middle, "", label);
         }
     }

@@ -22,7 +22,6 @@ text{font-family:'DejaVu Sans',Verdana,Arial,sans-serif;fill:#24292f}\
 .closed{stroke:#1a7f37;stroke-width:1.2}\
 .begun{stroke:#24292f;stroke-width:1;stroke-dasharray:1 3}\
 .red{fill:#cf222e}\
-.green{fill:#1a7f37}\
 .white{fill:#ffffff;font-weight:bold}";
 
 /// Where a text stands beside its place.

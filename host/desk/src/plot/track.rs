@@ -5,17 +5,14 @@ use crate::input::Log;
 use crate::turn::{Differs, Post, Turn};
 use chuldariin::{raw, reading, Milliamps, Reading};
 use chuldariin_log::Call;
-use chuldariin_model::State;
-
-/// Samples further apart are not joined by a line, ms: so long may a contactor be closed without a sound one.
-const JOINED: u64 = 80;
+use chuldariin_model::{State, SOUND_AGE};
 
 /// A value from a time on.
 pub type Run<T> = (u64, T);
 
 /// What a mark stands for.
 #[derive(Clone, Copy, Debug, PartialEq, Eq)]
-pub enum Kind {
+pub enum Sign {
     Begun,
     Closed,
     Opened,
@@ -26,7 +23,7 @@ pub struct Mark {
     pub at: u64,
     /// The call's own time.
     pub time: u64,
-    pub kind: Kind,
+    pub sign: Sign,
     pub words: String,
 }
 
@@ -35,7 +32,7 @@ pub struct Levels {
     pub at: u64,
     pub high: i32,
     pub low: i32,
-    /// The sample before it is of the same list, and near.
+    /// The sample before it is of the same list, and no longer ago than a sound one may be with the contactor closed.
     pub joined: bool,
 }
 
@@ -71,7 +68,8 @@ pub struct Track {
     pub refused_calls: u64,
     /// The axis' time at the start.
     pub origin: u64,
-    /// The end of what is drawn.
+    /// The axis' time at the last call, and the end of what is drawn.
+    pub last: u64,
     pub end: u64,
     /// A later list starts at an earlier time.
     pub anew: bool,
@@ -107,11 +105,12 @@ impl Track {
             track.see(&post.turn(line, call)?, part);
         }
         // In a part without calls what held before it goes on.
-        if track.calls == 0 && track.clock.now > part.0 {
+        if track.closed.is_empty() && track.clock.now > part.0 {
             track.start(part.0, part.0);
         }
         // What is drawn of the part ends with it, or with the log.
         let end = track.clock.now.min(part.1).saturating_sub(track.origin);
+        track.last = track.origin + end;
         track.end = end.max(1);
         track.anew = track.clock.anew;
         Ok(track)
@@ -125,10 +124,11 @@ impl Track {
         if now < part.0 && turn.accepted() {
             self.held = Some((turn.after, turn.reply));
         }
-        if !(part.0..=part.1).contains(&now) {
+        // Before the first begin there is no time.
+        if !(part.0..=part.1).contains(&now) || !(turn.begun || turn.accepted()) {
             return;
         }
-        if self.calls == 0 {
+        if self.closed.is_empty() {
             self.start(now, part.0);
         }
         self.calls += 1;
@@ -161,7 +161,7 @@ impl Track {
                 at,
                 high: sample.high,
                 low: sample.low,
-                joined: self.last_sample.is_some_and(|last| at - last <= JOINED),
+                joined: self.last_sample.is_some_and(|last| at - last <= SOUND_AGE),
             });
             self.last_sample = Some(at);
         }
@@ -187,19 +187,19 @@ impl Track {
 
     fn mark(&mut self, at: u64, turn: &Turn) {
         let opened = turn.told.opened || turn.begun_while_closed();
-        let kind = match (opened, turn.told.closing, turn.begins()) {
-            (true, _, _) => Kind::Opened,
-            (_, true, _) => Kind::Closed,
-            (_, _, true) => Kind::Begun,
+        let sign = match (opened, turn.told.closing, turn.begins()) {
+            (true, _, _) => Sign::Opened,
+            (_, true, _) => Sign::Closed,
+            (_, _, true) => Sign::Begun,
             _ => return,
         };
-        self.openings += u64::from(kind == Kind::Opened);
-        self.closings += u64::from(kind == Kind::Closed);
+        self.openings += u64::from(sign == Sign::Opened);
+        self.closings += u64::from(sign == Sign::Closed);
         let first = notes(turn).into_iter().next();
         self.marks.push(Mark {
             at,
             time: turn.after.last,
-            kind,
+            sign,
             words: first.map_or(String::new(), |note| note.words),
         });
     }

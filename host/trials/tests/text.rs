@@ -1,0 +1,27 @@
+//! Made-up lists as text and back.
+
+use chuldariin_log::text::{calls, print};
+use chuldariin_log::{Call, Window};
+use chuldariin_model::Begin;
+use chuldariin_trials::dice::Dice;
+use chuldariin_trials::windows::odd;
+
+#[test]
+fn calls_come_back_as_they_were() {
+    let mut dice = Dice::new(1);
+    let mut list = vec![Call::Begin(Begin {
+        time: 5,
+        rated: 6_000,
+        pause: 1_000,
+        ventilation: true,
+    })];
+    for time in 0..200 {
+        list.push(Call::Sample(time, odd(&mut dice).into()));
+        list.push(Call::Sample(
+            time,
+            Window::Halves(dice.level(-15_000, 15_000), 0),
+        ));
+        list.push(Call::Measure(dice.roll(), dice.roll() as u32));
+    }
+    assert_eq!(calls(&print(&list)), Ok(list));
+}
