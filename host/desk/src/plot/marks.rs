@@ -10,7 +10,7 @@ use crate::words::{counted, grouped};
 const FEW: usize = 80;
 /// Height of a line of the list, px, and the letters that it has room for.
 const LINE: f64 = 18.0;
-const LETTERS: usize = 128;
+const LETTERS: usize = 138;
 /// So many openings are listed.
 const LISTED: usize = 40;
 
