@@ -170,7 +170,13 @@ fn commands_that_are_wrong() {
             Some(format!("chuldariin: {said}").as_str())
         );
     }
-    for words in [&[][..], &["help"], &["--help"], &["replay", "--help"]] {
+    for words in [
+        &[][..],
+        &["help"],
+        &["-h"],
+        &["--help"],
+        &["replay", "--help"],
+    ] {
         let output = run(words, b"");
         assert_eq!(output.status.code(), Some(0));
         assert!(text(&output.stdout).contains("chuldariin replay FILE"));
@@ -280,19 +286,24 @@ fn a_full_disk_is_told() {
 
 #[test]
 fn the_demo_writes_what_it_replays() {
-    let folder = file("day", b"").with_file_name("demo");
+    let folder = file("day", b"").with_file_name("a demo");
+    // It makes the folder.
+    let _ = fs::remove_dir_all(&folder);
     let name = folder.to_str().expect("a name");
     let output = run(&["demo", name], b"");
     assert_eq!(output.status.code(), Some(0), "{}", text(&output.stderr));
-    let log = folder.join("day.log");
-    let again = run(
-        &["replay", log.to_str().expect("a name"), "--only", "changes"],
-        b"",
+    let (shown, log) = (text(&output.stdout), folder.join("day.log"));
+    let log = log.to_str().expect("a name");
+    let again = run(&["replay", log, "--only", "changes"], b"");
+    assert!(shown.contains(&text(&again.stdout)));
+    assert!(
+        shown.contains(&format!("  chuldariin why '{log}' --at 9000 ")),
+        "{shown}"
     );
-    assert!(text(&output.stdout).contains(&text(&again.stdout)));
-    assert!(fs::read_to_string(folder.join("day.svg"))
-        .expect("a picture")
-        .ends_with("</svg>\n"));
+    let svg = fs::read_to_string(folder.join("day.svg")).expect("a picture");
+    assert!(svg.ends_with("</svg>\n"));
+    let drawn = run(&["plot", log, "-o", "-"], b"");
+    assert_eq!(text(&drawn.stdout).lines().count(), svg.lines().count());
 }
 
 #[test]
@@ -356,6 +367,7 @@ fn a_begin_starts_afresh() {
     for line in [
         "OPENED: by the new begin; line 7, at 50",
         "  contactor open before    no",
+        "  not opened in this call  no",
         "  previous sample proven   no   there is none since begin",
         "The contactor waits for a limit of 6,000 mA or more (it is 0), a settled state (it is U) and two proven samples in a row in one band.",
     ] {
@@ -503,4 +515,46 @@ fn a_picture_is_never_written_over_its_log() {
         &nothing,
         "no call of the log was accepted: there is nothing to draw",
     );
+}
+
+#[test]
+fn the_end_of_a_log_that_is_refused() {
+    let shown = text(&replay(b"begin 0 1 0 no\ntick 5\n").stdout);
+    assert_eq!(
+        shown.lines().last(),
+        Some("  end       no begin was accepted")
+    );
+    let shown = text(&replay(b"begin 0 32000 0 no\ntick 5\ntick 4\n").stdout);
+    let end = "  end       refused, 1 call in a row: nothing is judged since 5, and the contactor stays open";
+    assert_eq!(shown.lines().last(), Some(end));
+}
+
+#[test]
+fn closings_across_begins() {
+    // 40, then 140 and 190 on one clock: 100 and 50 ms apart.
+    let list = |from: u64| {
+        let mut list = format!("begin {from} 32000 1000 no\nlimit {from} 32000\n");
+        for (after, levels) in [
+            (10, "9000 9000"),
+            (20, "9000 9000"),
+            (30, "6000 -12000"),
+            (40, "6000 -12000"),
+        ] {
+            list.push_str(&format!("sample {} {levels}\n", from + after));
+        }
+        list
+    };
+    let across = |lists: &[u64]| {
+        let log: String = lists.iter().map(|from| list(*from)).collect();
+        let shown = text(&replay(log.as_bytes()).stdout);
+        let line = shown.lines().find(|line| line.contains("across a begin"));
+        line.map(|line| line.trim().split(':').next().unwrap_or("").to_string())
+    };
+    assert_eq!(
+        across(&[0, 100, 150]).as_deref(),
+        Some("across a begin 50 ms")
+    );
+    // A clock that starts anew tells nothing of the time between, also if it soon is where it was.
+    assert_eq!(across(&[100, 130]), None);
+    assert_eq!(across(&[1_000, 0]), None);
 }

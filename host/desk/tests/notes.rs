@@ -53,3 +53,15 @@ fn closings_just_the_pause_apart() {
     let told = replayed(&format!("{CHARGE}{again}"));
     line(&told, "spacing   shortest time between two closings 3,000 ms (at 40 and 3040); the pause is 3,000 ms: kept");
 }
+
+#[test]
+fn the_greater_half_is_the_high_level() {
+    let told = replayed(&format!(
+        "{CHARGE}sample 50 -12000 6000\nsample 60 -12000 9000\n"
+    ));
+    assert!(
+        line(&told, "7 ").contains("sample -12,000 / 6,000    C proven"),
+        "{told}"
+    );
+    assert!(line(&told, "8 ").contains("B unsound"), "{told}");
+}

@@ -230,3 +230,48 @@ fn a_short_opening_is_seen_between_long_closings() {
         "{spans:?}"
     );
 }
+
+#[test]
+fn a_part_starts_where_it_was_asked_to() {
+    let svg = picture(CHARGE, (35, 500));
+    assert!(
+        svg.contains(">2 calls, 35 to 500 ms: 1 closing, 1 opening, 0 refused</text>"),
+        "{svg}"
+    );
+}
+
+#[test]
+fn openings_are_listed_with_both_clocks() {
+    // Closed at 1,040 and opened by the begin; closed again 40 ms after it, and opened at its own 500.
+    let text = CHARGE.replace("limit 500 20000\ntick 1000\n", "");
+    let late = text
+        .replace(" 0 ", " 1000 ")
+        .replace(" 10 ", " 1010 ")
+        .replace(" 20 ", " 1020 ")
+        .replace(" 30 ", " 1030 ")
+        .replace(" 40 ", " 1040 ");
+    let svg = picture(&format!("{late}{text}tick 500\n"), WHOLE);
+    assert!(
+        svg.contains(": 2 closings, 2 openings, 0 refused</text>"),
+        "{svg}"
+    );
+    for words in [
+        ">1040 ms</text>",
+        ">by the new begin (the post's clock: 0)</text>",
+        ">1540 ms</text>",
+        ">460 ms since the last sound sample (ii) (the post's clock: 500)</text>",
+    ] {
+        assert!(svg.contains(words), "{words}\n{svg}");
+    }
+}
+
+#[test]
+fn of_a_long_name_the_end_is_shown() {
+    let log = Log::of(b"begin 0 32000 0 no\n").unwrap_or_else(|unfit| panic!("{unfit}"));
+    let name = format!("{}/bay7.log", "long".repeat(50));
+    let svg = plot(&log, &name, WHOLE).unwrap_or_else(|error| panic!("{error}"));
+    assert!(
+        svg.contains("long/bay7.log</text>") && !svg.contains(&name),
+        "{svg}"
+    );
+}

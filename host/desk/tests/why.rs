@@ -228,3 +228,20 @@ fn what_can_not_be_asked() {
         "chuldariin: no call of the log is accepted: nothing has begun\n"
     );
 }
+
+#[test]
+fn the_last_opening_of_the_list() {
+    let mut log = format!("{CHARGE}tick 121\n");
+    for time in [3_200, 3_210] {
+        log.push_str(&format!("sample {time} 6000 -12000\n"));
+    }
+    log.push_str("fault 3220 5\n");
+    let told = why(&log, "3220");
+    line(
+        &told,
+        "OPENED: fault: over-temperature (v); line 10, at 3220",
+    );
+    assert!(!told.contains("(ii)"));
+    let told = why(&format!("{log}begin 3300 32000 0 no\n"), "3300");
+    assert!(!told.contains("OPENED"), "{told}");
+}
