@@ -145,6 +145,16 @@ fn a_previous_sample_that_is_forgotten() {
         "previous sample",
         "no   it is forgotten in this call",
     );
+    // An opening that latches a fault too is told as the opening.
+    let both = why(
+        &format!("{CHARGE}fault 50 3\nsample 60 -12000 -12000\n"),
+        "60",
+    );
+    says(
+        &both,
+        "previous sample",
+        "no   it was forgotten by the opening at 50",
+    );
     let told = why(&format!("{ready}tick 45\nsample 50 -12000 -12000\n"), "50");
     says(
         &told,
