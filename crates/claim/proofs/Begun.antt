@@ -22,12 +22,16 @@ module _ (lent : Lent) (begin : Begin) (back : Answer) (is : back ≡ answerToBe
   unfolding answerToBegin
   by a e = is ∙ ap (λ b. cond b (record { lent = begun begin; reply = shown 0 (begun begin) }) (record { lent = lent; reply = alone (beginRefusal begin) })) e
 
-  pub begin-accepted : _≡_ {A = ℕ} (back .reply .refusal) 0 → beginRefusal begin ≡ 0
-  begin-accepted into = go (eqb (beginRefusal begin) 0) refl
+  -- the number is the table's
+  pub begin-number : _≡_ {A = ℕ} (back .reply .refusal) (beginRefusal begin)
+  begin-number = go (eqb (beginRefusal begin) 0) refl
     where
-      go : (a : Bool) → eqb (beginRefusal begin) 0 ≡ a → beginRefusal begin ≡ 0
-      go true e = eqb-true (beginRefusal begin) 0 e
-      go false e = sym (ap (λ b. b .reply .refusal) (by false e)) ∙ into
+      go : (a : Bool) → eqb (beginRefusal begin) 0 ≡ a → back .reply .refusal ≡ beginRefusal begin
+      go true e = ap (λ b. b .reply .refusal) (by true e) ∙ sym (eqb-true (beginRefusal begin) 0 e)
+      go false e = ap (λ b. b .reply .refusal) (by false e)
+
+  pub begin-accepted : _≡_ {A = ℕ} (back .reply .refusal) 0 → beginRefusal begin ≡ 0
+  begin-accepted into = sym begin-number ∙ into
 
   pub begun-is : _≡_ {A = ℕ} (back .reply .refusal) 0 → back ≡ record { lent = begun begin; reply = shown 0 (begun begin) }
   begun-is into = by true (ap (λ n. eqb n 0) (begin-accepted into))

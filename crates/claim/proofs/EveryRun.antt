@@ -1,20 +1,29 @@
--- Demand 3 of every run: there is no hypothesis but the run.
-use mathlib.Core.Path.{_≡_, sym, _∙_, ap}
+-- What holds of every run: there is no hypothesis but the run.
+use mathlib.Core.Path.{_≡_, sym, _∙_, ap, subst}
+use mathlib.Core.Bool.{true}
 use mathlib.Core.List.{List, map}
 use Prim.Native.Nat.{ℕ, zero, suc, _≤_}
 use native.Mathlib.Omega.{arith}
-use lib.ListN.{length, take}
+use lib.ListN.{length, getD, take}
 use lib.Seq.{take-length}
+use Rattle.units.specs.Wave.{driven}
+use Rattle.duty.specs.DutyFor.{IsGreatest}
 use Rattle.rules.specs.Answer.{begun, replyTo, lentAfter}
 use Rattle.rules.specs.Begin.{Begin, beginRefusal}
 use Rattle.rules.specs.Calls.{Call}
 use Rattle.rules.specs.Lent.{altered}
+use Rattle.rules.specs.RefusalsAre.{RefusedBy}
 use Rattle.rules.specs.Replay.{replay}
 use Rattle.rules.specs.Reply.{shown}
 use Rattle.rules.specs.Sequences.{repliesTo}
-use Rattle.rules.specs.Traces.{callAt, lentAt, replyBefore}
+use Rattle.rules.specs.Step3Wave.{available}
+use Rattle.rules.specs.Traces.{noCall, before, callAt, lentAt, replyBefore}
+use Rattle.rules.proofs.Altered.{altered-exactly}
+use Rattle.rules.proofs.Booleans.{clash}
+use Rattle.rules.proofs.Every20.{closed-is-sound}
 use Rattle.rules.proofs.EveryList.{every-list}
-use Rattle.rules.proofs.Lending.{demand3-replied}
+use Rattle.rules.proofs.Lending.{contactor-told, demand3-replied}
+use Rattle.rules.proofs.RefusalsAre.{refused-by}
 use Rattle.leaves.specs.declared.replies.Reply.{Reply}
 use Rattle.leaves.specs.Views.{asReply}
 use Rattle.controller.specs.declared.Controller.{Controller}
@@ -72,4 +81,19 @@ module _ (begin : Begin) (calls : List Call) (begins : Reply) (replies : List Re
             demand3-replied begin calls accepted (λ k. told begins replies k .closed) (λ k. told begins replies k .closings)
             (λ k within. ap (λ r. r .closed) (replies-are k within))
             (λ k within. ap (λ r. r .closings) (replies-are k within));
+        refused-by = λ k below.
+            subst (RefusedBy (lentAt begin calls k) (getD calls k noCall)) (sym (ap (λ r. r .refusal) (replies-are (suc k) below)))
+            (refused-by (lentAt begin calls k) (getD calls k noCall));
+        never-1 = λ k below one.
+            let known = refused-by (lentAt begin calls k) (getD calls k noCall) .one .0 (sym (ap (λ r. r .refusal) (replies-are (suc k) below)) ∙ one) in
+            clash (altered-exactly (lentAt begin calls k) .1 (known .1)) (list .not-altered k (omega arith));
+        duties = λ k within.
+            subst (λ wave. driven wave ≡ true → IsGreatest (available (before begin calls k)) wave)
+            (sym (ap (λ r. r .wave) (replies-are k within) ∙ list .waves k within)) (list .reached k within .driven-greatest);
+        settings-are = list .settings-are;
+        least-pause = list .least-pause;
+        reached = list .reached;
+        closed-is-sound =
+            closed-is-sound begin calls accepted (λ k. told begins replies k .closed) (λ k. told begins replies k .closings)
+            (λ k within. ap (λ r. r .closed) (replies-are k within) ∙ contactor-told begin calls accepted k within);
       }

@@ -1,16 +1,23 @@
--- Demand 3, whole: one proposition over begin's values, the calls, the replies and the final controller (proved in proofs/EveryRun.antt).
+-- What holds of every run of the calls: one proposition over begin's values, the calls, the replies and the final controller (proved in
+-- proofs/EveryRun.antt). It has demand 3, and what demands 1 and 2 say of a whole list.
 use mathlib.Core.Path.{_≡_}
-use mathlib.Core.Bool.{false}
+use mathlib.Core.Bool.{true, false}
 use mathlib.Core.List.{List, _∷_}
 use Prim.Native.Nat.{ℕ, suc, _≤_, _<_}
 use lib.ListN.{length, getD}
-use Rattle.rules.specs.Begin.{Begin}
+use Rattle.units.specs.Wave.{driven}
+use Rattle.duty.specs.DutyFor.{IsGreatest}
+use Rattle.rules.specs.Begin.{Begin, pauseFor, fresh}
 use Rattle.rules.specs.Calls.{Call}
-use Rattle.rules.specs.Claim.{Demand3}
+use Rattle.rules.specs.Claim.{Trace, leastPause, Demand3}
+use Rattle.rules.specs.Every20.{ClosedIsSound}
+use Rattle.rules.specs.EveryList.{Reached}
 use Rattle.rules.specs.Lent.{altered}
 use Rattle.rules.specs.Refusals.{refusal}
+use Rattle.rules.specs.RefusalsAre.{RefusedBy}
 use Rattle.rules.specs.Replay.{replay}
-use Rattle.rules.specs.Traces.{before, callAt, traceOf, replyBefore}
+use Rattle.rules.specs.Step3Wave.{available}
+use Rattle.rules.specs.Traces.{noCall, before, callAt, traceOf, lentAt, replyBefore}
 use Rattle.leaves.specs.declared.replies.Reply.{Reply}
 use Rattle.leaves.specs.Views.{asReply}
 use Rattle.controller.specs.declared.Controller.{Controller}
@@ -20,12 +27,22 @@ use Rattle.controller.specs.View.{kept, view}
 abbrev pub told : Reply → List Reply → ℕ → Reply
 told begun replies k = getD (begun ∷ replies) k begun
 
+-- the trace of a run: contactor and closings as they were told, all else by the replay
+abbrev pub traceTold : Begin → List Call → Reply → List Reply → Trace
+traceTold begin calls begun replies = traceOf begin calls (λ k. told begun replies k .closed) (λ k. told begun replies k .closings)
+
 pub record EveryRun (begin : Begin) (calls : List Call) (begun : Reply) (replies : List Reply) (final : Controller) : Type 0 where
   -- a reply for each call
   pub each-answered : length replies ≡ length calls
   -- the refusal number is the table's (so 0 exactly if the table has none), and the wave the replay's
   pub refusals : (k : ℕ) → k < length calls → told begun replies (suc k) .refusal ≡ refusal (before begin calls k) (callAt begin calls k)
   pub waves : (k : ℕ) → k ≤ length calls → told begun replies k .wave ≡ before begin calls k .wave
+  -- demand 1: each number comes for its condition and for nothing else, and 1 never
+  pub refused-by : (k : ℕ) → k < length calls → RefusedBy (lentAt begin calls k) (getD calls k noCall) (told begun replies (suc k) .refusal)
+  pub never-1 : (k : ℕ) → k < length calls → _≡_ {A = ℕ} (told begun replies (suc k) .refusal) 1 → ⊥
+  -- demand 2: a driven wave is the greatest allowed duty for the lesser of rated and limit
+  pub duties : (k : ℕ) → k ≤ length calls → driven (told begun replies k .wave) ≡ true
+      → IsGreatest (available (before begin calls k)) (told begun replies k .wave)
   -- the controller holds the contactor and the closings that were last told, and else what the replay keeps
   pub contactor-held : final .closed ≡ told begun replies (length calls) .closed
   pub closings-held : final .closings ≡ told begun replies (length calls) .closings
@@ -35,4 +52,11 @@ pub record EveryRun (begin : Begin) (calls : List Call) (begun : Reply) (replies
   -- every reply, whole, follows from begin's values and the calls
   pub replies-are : (k : ℕ) → k ≤ length calls → asReply (told begun replies k) ≡ replyBefore begin calls k
   -- closed exactly when; two proven samples; opening and pause between; the count; the span: rules/specs/Claim.antt, on what was told
-  pub demand3 : Demand3 (traceOf begin calls (λ k. told begun replies k .closed) (λ k. told begun replies k .closings))
+  pub demand3 : Demand3 (traceTold begin calls begun replies)
+  -- begin's settings stay in force, so the pause in all of this is begin's
+  pub settings-are : (k : ℕ) → before begin calls k .settings ≡ fresh begin .settings
+  pub least-pause : leastPause (traceTold begin calls begun replies) (length calls) ≡ pauseFor (begin .pause)
+  -- what every state on the way has: wave 0 exactly under a fault, and so on
+  pub reached : (k : ℕ) → k ≤ length calls → Reached (before begin calls k)
+  -- what a board gets that calls every 20 ms: closed only with a sound sample in the last 100 ms
+  pub closed-is-sound : ClosedIsSound (traceTold begin calls begun replies)

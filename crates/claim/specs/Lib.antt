@@ -1,3 +1,4 @@
 -- A run of the controller's calls, and what holds of every run.
 pub mod Run
+pub mod EachCall
 pub mod EveryRun

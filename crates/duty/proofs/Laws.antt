@@ -122,6 +122,13 @@ on-scale : (d : ℕ) → d < 1001 → isRead (readingOf d) ≡ true
 unfolding isRead readingOf fromTo
 on-scale d h = tells (λ (k : ℕ). isRead (readingOf k)) 1001 refl d h
 
+-- the number of a refusal
+numberOf : Reads → ℕ
+numberOf noCharging = 0
+numberOf digitalOnly = 0
+numberOf (current milliamps) = 0
+numberOf (refused number) = number
+
 -- refusal 9 comes for a duty above 1000, and for nothing else
 pub nine-exactly : (d : ℕ) → (readingOf d ≡ refused 9) ↔ (1000 < d)
 unfolding isRead
@@ -130,6 +137,15 @@ nine-exactly d = (λ r. go r (decLt 1000 d), above-scale d)
     go : readingOf d ≡ refused 9 → Dec (1000 < d) → 1000 < d
     go r (yes above) = above
     go r (no within) = both-ways (sym (on-scale d (omega arith)) ∙ ap isRead r)
+
+-- and no other number comes
+pub only-nine : (d number : ℕ) → readingOf d ≡ refused number → number ≡ 9
+unfolding isRead numberOf
+only-nine d number r = go (decLt 1000 d)
+  where
+    go : Dec (1000 < d) → number ≡ 9
+    go (yes above) = ap numberOf (sym r ∙ above-scale d above)
+    go (no within) = both-ways (sym (on-scale d (omega arith)) ∙ ap isRead r)
 
 -- an answer's meaning fixes the answer: each map has an inverse
 readingFrom : Reads → Reading

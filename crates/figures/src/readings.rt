@@ -54,12 +54,9 @@ const LEVELS: [i32; 37] = [
 
 // Readings in groups of 7, as far as the levels go, so that no reading has an eighth supporter.
 pub fn groups_of_seven(window: &mut [i32]) {
-    let mut i = 0;
-    while i < window.len() {
-        let group = i / 7;
-        if group < 37 {
-            window[i] = LEVELS[group];
-        }
-        i += 1;
+    let mut groups = 37;
+    while 0 < groups {
+        groups -= 1;
+        put(window, 7 * groups + 7, LEVELS[groups]);
     }
 }

@@ -1,21 +1,20 @@
--- Demand 3 of every run of the exported calls: it is a run of the calls by value, with the same replies and the same final controller.
+-- What holds of every run of the exported calls: it is a run of the calls by value, with the same replies and the same final controller.
 use mathlib.Core.Path.{_≡_, refl, subst}
 use Prim.Native.Nat.{ℕ}
 use mathlib.Core.List.{List, [], _∷_}
 use denote.Ref.{RefT, now, at-last}
-use Rattle.rules.specs.Answer.{alone}
 use Rattle.rules.specs.Begin.{Begin, beginRefusal}
 use Rattle.rules.specs.Calls.{Call}
 use Rattle.leaves.specs.declared.replies.Reply.{Reply}
-use Rattle.leaves.specs.Views.{asReply}
 use Rattle.controller.specs.declared.Controller.{Controller}
 use Rattle.controller.specs.Answers.{Answers, Begins}
 use Rattle.claim.specs.Run.{Lends}
+use Rattle.claim.specs.EachCall.{EachCall, EachBegin}
 use Rattle.claim.specs.EveryRun.{EveryRun}
 use Rattle.claim.proofs.EveryRun.{every-run}
-use Rattle.claim.proofs.Begun.{refused-begin}
+use Rattle.claim.proofs.EachCall.{each-call, each-begin}
 use Rattle.claim.proofs.Exists.{has-run}
-use Rattle.post.specs.Lent.{BeginsLent}
+use Rattle.post.specs.Lent.{AnswersLent, BeginsLent}
 use Rattle.post.specs.HostRun.{HostLends, HostRun, HasHostRun}
 
 by-value : (before : Controller) (calls : List Call) (replies : List Reply) (final : Controller) → HostLends before calls replies final → Lends before calls replies final
@@ -60,7 +59,11 @@ has-host-run lent begin calls accepted =
       refl,
     )
 
--- a refused begin, wherever it stands, leaves the host's controller as it is, and tells the number alone
-pub refused-host-begin : (begin : Begin) (entry : RefT Controller) (reply : Reply) (exit : RefT Controller) → BeginsLent begin entry reply exit
-    → (_≡_ {A = ℕ} (reply .refusal) 0 → ⊥) → (now exit ≡ now entry) × (asReply reply ≡ alone (beginRefusal begin))
-refused-host-begin begin entry reply exit = refused-begin begin (now entry) reply (now exit)
+-- demand 1 of one exported call, whatever the host's controller holds
+pub each-host-call : (call : Call) (entry : RefT Controller) (reply : Reply) (exit : RefT Controller) → AnswersLent call entry reply exit
+    → EachCall call (now entry) reply (now exit)
+each-host-call call entry reply exit = each-call call (now entry) reply (now exit)
+
+pub each-host-begin : (begin : Begin) (entry : RefT Controller) (reply : Reply) (exit : RefT Controller) → BeginsLent begin entry reply exit
+    → EachBegin begin (now entry) reply (now exit)
+each-host-begin begin entry reply exit = each-begin begin (now entry) reply (now exit)

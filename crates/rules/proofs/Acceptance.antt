@@ -74,8 +74,3 @@ begins begin accepted =
     go false true false false p q r u e = absurd (omega arith)
     go false true true range p q r u e = record { not-late = ltb-false largestTime (begin .time) p; rated-right = q; pause-right = rw r }
     go false true false true p q r u e = record { not-late = ltb-false largestTime (begin .time) p; rated-right = q; pause-right = rw r u }
-
-pub pause-least : (begin : Begin) → Begins begin → 1000 ≤ pauseFor (begin .pause)
-unfolding pauseAllowed fromTo
-pause-least begin known =
-    leb-true 1000 (pauseFor (begin .pause)) (and-parts (leb 1000 (pauseFor (begin .pause))) (leb (pauseFor (begin .pause)) 60000) (known .pause-right) .0)

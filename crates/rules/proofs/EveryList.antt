@@ -1,16 +1,44 @@
 -- Every list of calls after an accepted begin.
 use mathlib.Core.Path.{_≡_, refl, sym, _∙_, ap}
-use mathlib.Core.List.{List}
+use mathlib.Core.Bool.{Bool, true, false, cond}
+use mathlib.Core.List.{List, [], _∷_}
+use Prim.Native.Nat.{ℕ, zero, suc}
 use native.Mathlib.Omega.{arith}
-use Rattle.rules.specs.Begin.{Begin, beginRefusal}
-use Rattle.rules.specs.Calls.{Call}
+use lib.ListN.{length, take}
+use Rattle.rules.specs.Begin.{Begin, beginRefusal, fresh}
+use Rattle.rules.specs.Calls.{Call, heard, inTurn}
+use Rattle.rules.specs.Claim.{Trace, leastPause}
 use Rattle.rules.specs.EveryList.{EveryList}
 use Rattle.rules.specs.Lent.{altered, lentRefusal}
-use Rattle.rules.specs.Traces.{callAt, replyBefore}
+use Rattle.rules.specs.Replay.{isAccepted, step, replay}
+use Rattle.rules.specs.State.{State}
+use Rattle.rules.specs.Traces.{before, callAt, replyBefore, answered}
+use Rattle.rules.proofs.Every20.{closed-is-sound}
 use Rattle.rules.proofs.Lending.{lent-refusal, lent-is, tally-not-altered, reply-is, contactor-told, closings-told, demand3}
 use Rattle.rules.proofs.Reaching.{list-reaches}
+use Rattle.rules.proofs.Stepped.{step-to}
+
+-- no call changes the settings
+settings-kept : (s : State) (calls : List Call) → inTurn step s calls .settings ≡ s .settings
+unfolding inTurn
+settings-kept s [] = refl
+settings-kept s (call ∷ calls) = settings-kept (step s (heard call)) calls ∙ step-to s (heard call) (λ x. x .settings) (s .settings) refl ∙ same (isAccepted s (heard call))
+  where
+    same : (a : Bool) → cond a (s .settings) (s .settings) ≡ s .settings
+    same true = refl
+    same false = refl
+
+settings-are : (begin : Begin) (calls : List Call) (k : ℕ) → before begin calls k .settings ≡ fresh begin .settings
+unfolding replay
+settings-are begin calls k = settings-kept (fresh begin) (take k calls)
+
+-- the least of pauses that are all the same
+least-is : (t : Trace) (n pause : ℕ) → ((k : ℕ) → t .pause k ≡ pause) → leastPause t n ≡ pause
+least-is t zero pause same = same 0
+least-is t (suc n) pause same = rw (least-is t n pause same, same (suc n)) (omega arith)
 
 pub every-list : (begin : Begin) (calls : List Call) → beginRefusal begin ≡ 0 → EveryList begin calls
+unfolding fresh
 every-list begin calls accepted =
     record {
       demand3 = demand3 begin calls accepted;
@@ -21,5 +49,8 @@ every-list begin calls accepted =
       held = λ k within. ap (λ l. l .kept .closed) (lent-is begin calls accepted k within) ∙ sym (contactor-told begin calls accepted k within);
       carried = λ k within. ap (λ l. l .closings) (lent-is begin calls accepted k within) ∙ sym (closings-told begin calls accepted k within);
       not-altered = λ k within. ap altered (lent-is begin calls accepted k within) ∙ tally-not-altered begin calls accepted k within;
-      reached = list-reaches begin calls;
+      reached = λ k within. list-reaches begin (take k calls);
+      settings-are = settings-are begin calls;
+      least-pause = least-is (answered begin calls) (length calls) _ (λ k. ap (λ x. x .pause) (settings-are begin calls k));
+      closed-is-sound = closed-is-sound begin calls accepted _ _ (contactor-told begin calls accepted);
     }

@@ -9,7 +9,7 @@ use Rattle.units.specs.Range.{fromTo}
 use Rattle.units.proofs.LevelOrder.{and-parts}
 use Rattle.pilot.specs.Bands.{bandC, bandD, noBand, ready}
 use Rattle.pilot.specs.declared.verdicts.Verdict.{Verdict}
-use Rattle.rules.specs.Accepted.{pairAt, unsettlesAt, causeAt, closesAt, afterWave, accept}
+use Rattle.rules.specs.Accepted.{pairAt, unsettlesAt, causeAt, opensAt, closesAt, afterWave, accept}
 use Rattle.rules.specs.Calls.{Heard, isSample}
 use Rattle.rules.specs.Pairs.{Pair, verdict, paired, sameBand, inOneBand, bothUnsound}
 use Rattle.rules.specs.Replay.{isAccepted}
@@ -19,7 +19,8 @@ use Rattle.rules.specs.Step3Wave.{isLetter, isUAE, unventilatedD}
 use Rattle.rules.specs.Step4Opening.{cause1, cause2, cause3, cause4, cause5, cause}
 use Rattle.rules.proofs.Booleans.{clash}
 use Rattle.rules.proofs.Faulted.{unsettled-fault}
-use Rattle.rules.proofs.OneCall.{closed-next, previous-sample, previous-other, ProvenPair, meets-all, same-band, some-band}
+use Rattle.rules.proofs.Lawful.{previousBy}
+use Rattle.rules.proofs.OneCall.{closed-next, previous-is, ProvenPair, in-band, closes-exactly, same-band, some-band}
 use Rattle.rules.proofs.Samples.{fits, verdict-fits, verdict-sound, verdict-ready}
 use Rattle.rules.proofs.Offering.{driven-offers}
 
@@ -38,7 +39,7 @@ module _ (s : State) (call : Heard) where
   closing-closed : closesAt s call ≡ true → Closed (accept s call)
   unfolding soundBy settledBy isUAE isLetter fromTo
   closing-closed met =
-      let all = meets-all s call met in
+      let all = closes-exactly s call .0 met in
       let offer = driven-offers s call (all .driven-wave) in
       let sound : accept s call .sound ≡ setTo (call .time) =
       rw (all .pair .sampled, verdict-sound s (call .event) (all .pair .second-proven)) in
@@ -54,7 +55,7 @@ module _ (s : State) (call : Heard) where
       settled true p pair state = clash (ap (λ b. isUAE (cond b 0 (settledBy (pairAt s call) (s .settled)))) p) state
       settled false p pair state =
           let is : accept s call .settled ≡ verdict s (call .event) .band =
-          settled-is p ∙ ap (λ b. cond b (verdict s (call .event) .band) (s .settled)) (pair .in-band) in
+          settled-is p ∙ ap (λ b. cond b (verdict s (call .event) .band) (s .settled)) (in-band (pairAt s call) pair) in
           rw is (verdict-ready s (call .event) (pair .second-proven))
 
   -- the causes that did not hold
@@ -160,12 +161,12 @@ module _ (s : State) (call : Heard) (into : isAccepted s call ≡ true)
 
   pub previous-fits : accept s call .previous .kept ≡ true → accept s call .previous .verdict .sound ≡ true
       → fits (accept s call .previous .verdict .band) ≡ true
-  previous-fits keeps sound = go (isSample (call .event)) refl
+  previous-fits keeps sound = go (unsettlesAt s call || opensAt s call) (isSample (call .event)) (previous-is s call)
     where
-      go : (a : Bool) → isSample (call .event) ≡ a → fits (accept s call .previous .verdict .band) ≡ true
-      go true kind =
-          let is = previous-sample s call kind keeps in
-          ap (λ v. fits (v .band)) is ∙ verdict-fits s (call .event) (sym (ap (λ v. v .sound) is) ∙ sound)
-      go false kind =
-          let is = previous-other s call kind keeps in
+      go : (f a : Bool) → accept s call .previous ≡ previousBy f a (verdict s (call .event)) (s .previous)
+          → fits (accept s call .previous .verdict .band) ≡ true
+      go true a is = clash keeps (ap (λ p. p .kept) is)
+      go false true is =
+          ap (λ p. fits (p .verdict .band)) is ∙ verdict-fits s (call .event) (sym (ap (λ p. p .verdict .sound) is) ∙ sound)
+      go false false is =
           ap (λ p. fits (p .verdict .band)) is ∙ old (sym (ap (λ p. p .kept) is) ∙ keeps) (sym (ap (λ p. p .verdict .sound) is) ∙ sound)

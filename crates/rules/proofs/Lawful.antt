@@ -1,11 +1,12 @@
 -- The laws of one call that the list theorem rests on. Requests that change a step touch these laws and not the theorem.
-use mathlib.Core.Path.{_≡_, refl, sym, _∙_}
+use mathlib.Core.Path.{_≡_, refl, sym, _∙_, ap}
 use mathlib.Core.Bool.{Bool, true, false, _&&_, _||_, not, cond}
 use Prim.Native.Nat.{ℕ, suc, _+_, _≤_, _<_}
 use Rattle.pilot.specs.Bands.{noBand}
 use Rattle.rules.specs.Begin.{largestTime}
 use Rattle.rules.specs.Claim.{Trace}
-use Rattle.rules.specs.State.{Moment, Previous, setTo}
+use Rattle.pilot.specs.declared.verdicts.Verdict.{Verdict}
+use Rattle.rules.specs.State.{Moment, Previous, setTo, forgotten}
 use Rattle.rules.specs.Step5Closing.{closingsBy}
 use Rattle.rules.proofs.Booleans.{clash}
 
@@ -14,6 +15,12 @@ pub record Kept : Type 0 where
   pub last : ℕ → ℕ
   pub opening : ℕ → Moment
   pub previous : ℕ → Previous
+  -- of call k: if accepted, it forgets the previous sample
+  pub forgets : ℕ → Bool
+
+-- the previous sample after an accepted call: none, the call's own, or the one before it
+abbrev pub previousBy : Bool → Bool → Verdict → Previous → Previous
+previousBy forgets sampled verdict old = cond forgets forgotten (cond sampled (record { kept = true; verdict = verdict }) old)
 
 module _ (t : Trace) (kept : Kept) where
   -- what a call shows that meets every closing condition
@@ -25,20 +32,16 @@ module _ (t : Trace) (kept : Kept) where
     pub second-proven : t .verdict k .proven ≡ true
     pub one-band : kept .previous k .verdict .band ≡ t .verdict k .band
     pub has-band : t .verdict k .band ≡ noBand → ⊥
-    pub rested : kept .opening k .set ≡ true → kept .opening k .time + t .pause ≤ t .time k
+    pub rested : kept .opening k .set ≡ true → kept .opening k .time + t .pause k ≤ t .time k
 
   pub record Law (k : ℕ) : Type 0 where
     pub told-next : t .told (suc k) ≡ cond (t .accepted k) ((t .told k && not (t .cause k)) || t .closes k) (t .told k)
     pub carried-next : t .carried (suc k) ≡ closingsBy (t .accepted k && t .closes k) (t .carried k)
     pub last-next : kept .last (suc k) ≡ cond (t .accepted k) (t .time k) (kept .last k)
     pub opening-next : kept .opening (suc k) ≡ cond (t .accepted k && (t .told k && t .cause k)) (setTo (t .time k)) (kept .opening k)
-    -- an opening forgets the previous sample; else the last accepted sample is the one that is kept, if any is
-    pub previous-opened : t .accepted k ≡ true → t .told k ≡ true → t .cause k ≡ true → kept .previous (suc k) .kept ≡ false
-    pub previous-sample : t .accepted k ≡ true → t .sampled k ≡ true → kept .previous (suc k) .kept ≡ true
-        → kept .previous (suc k) .verdict ≡ t .verdict k
-    pub previous-other : t .accepted k ≡ true → t .sampled k ≡ false → kept .previous (suc k) .kept ≡ true
-        → kept .previous (suc k) ≡ kept .previous k
-    pub previous-refused : t .accepted k ≡ false → kept .previous (suc k) ≡ kept .previous k
+    pub previous-next : kept .previous (suc k)
+        ≡ cond (t .accepted k) (previousBy (kept .forgets k) (t .sampled k) (t .verdict k) (kept .previous k)) (kept .previous k)
+    pub opening-forgets : t .told k ≡ true → t .cause k ≡ true → kept .forgets k ≡ true
     -- the clock
     pub not-back : t .accepted k ≡ true → kept .last k ≤ t .time k
     pub not-late : t .accepted k ≡ true → t .time k ≤ largestTime
@@ -49,7 +52,7 @@ module _ (t : Trace) (kept : Kept) where
     pub starts-at-none : t .carried 0 ≡ 0
     pub starts-alone : kept .previous 0 .kept ≡ false
     pub each : (k : ℕ) → k < t .length → Law k
-    pub pause-least : 1000 ≤ t .pause
+    pub pause-least : (k : ℕ) → k ≤ t .length → 1000 ≤ t .pause k
 
   -- the four outcomes of a call
   pub data Outcome (k : ℕ) : Type 0 where
@@ -72,12 +75,16 @@ module _ (t : Trace) (kept : Kept) where
           → kept .opening (suc k) ≡ cond (a && (c && r)) (setTo (t .time k)) (kept .opening k)
       moved a c r ea ec er = law .opening-next ∙ rw (ea, ec, er)
 
+      none-kept : t .accepted k ≡ true → kept .forgets k ≡ true → kept .previous (suc k) ≡ forgotten
+      none-kept into forgets = law .previous-next ∙ rw (into, forgets)
+
       go : (a c r m : Bool) → t .accepted k ≡ a → t .told k ≡ c → t .cause k ≡ r → t .closes k ≡ m → Outcome k
       go false c r m ea ec er em = refused ea (next false c r m ea ec er em ∙ sym ec) (moved false c r ea ec er)
       go true true true true ea ec er em = clash ec (law .meets em .was-open)
       go true true false true ea ec er em = clash ec (law .meets em .was-open)
       go true true true false ea ec er em =
-          opens ea ec (next true true true false ea ec er em) (moved true true true ea ec er) er em (law .previous-opened ea ec er)
+          opens ea ec (next true true true false ea ec er em) (moved true true true ea ec er) er em
+          (ap (λ p. p .kept) (none-kept ea (law .opening-forgets ec er)))
       go true true false false ea ec er em =
           stays ea (next true true false false ea ec er em ∙ sym ec) (moved true true false ea ec er) (λ c. er) em
       go true false r true ea ec er em = shuts ea ec (next true false r true ea ec er em) (moved true false r ea ec er) em

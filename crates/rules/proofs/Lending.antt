@@ -6,7 +6,7 @@ use Prim.Native.Nat.{ℕ, zero, suc, _≤_}
 use native.Mathlib.Omega.{arith}
 use lib.Dec.{eqb}
 use lib.ListN.{length, take}
-use borrow.Author.Tests.{le-leb}
+use borrow.Author.Tests.{le-leb, ne-eqb}
 use Rattle.rules.specs.Accepted.{closesAt}
 use Rattle.rules.specs.Answer.{begun, acceptLent, next}
 use Rattle.rules.specs.Begin.{Begin, beginRefusal}
@@ -20,7 +20,8 @@ use Rattle.rules.specs.Step5Closing.{closingsBy}
 use Rattle.rules.specs.Traces.{before, callAt, traceOf, lentAt, replyBefore, answered}
 use Rattle.rules.proofs.Lists.{list-in-range}
 use Rattle.rules.proofs.Ranges.{range-whole}
-use Rattle.rules.proofs.Replayed.{before-next, step-by, keptOf, Follows, lawful, demand3-told}
+use Rattle.rules.proofs.Replayed.{keptOf, Follows, lawful, demand3-told}
+use Rattle.rules.proofs.Stepped.{before-next, step-by}
 use Rattle.rules.proofs.Turns.{turn-next}
 use Rattle.rules.proofs.Spacing.{at-most, counts}
 
@@ -32,6 +33,10 @@ lent-refusal lent call e = rw e
 next-by : (lent : Lent) (call : Heard) (a : Bool) → eqb (lentRefusal lent call) 0 ≡ a → next lent call ≡ cond a (acceptLent lent call) lent
 unfolding next
 next-by lent call a e = ap (λ b. cond b (acceptLent lent call) lent) e
+
+-- a refused call leaves the lent controller as it is
+pub refused-next : (lent : Lent) (call : Heard) → (lentRefusal lent call ≡ 0 → ⊥) → next lent call ≡ lent
+refused-next lent call refused = next-by lent call false (ne-eqb (lentRefusal lent call) 0 refused)
 
 -- then it goes on as the replay does, and counts the closings
 next-follows : (s : State) (n : ℕ) (call : Heard) → altered (record { kept = s; closings = n }) ≡ false

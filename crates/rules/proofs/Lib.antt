@@ -2,6 +2,7 @@
 pub mod Booleans
 pub mod Lawful
 pub mod Turns
+pub mod Stepped
 pub mod Exactly
 pub mod Remembered
 pub mod Rests
@@ -20,6 +21,7 @@ pub mod Offering
 pub mod Opened
 pub mod Held
 pub mod Reaching
+pub mod Every20
 pub mod EveryList
 pub mod Squares
 pub mod Sequences
@@ -27,6 +29,7 @@ pub mod BenchRows
 pub mod OtherRows
 pub mod StateRows
 pub mod RangeRows
+pub mod Altered
 pub mod RefusalsAre
 pub mod BeginRefusals
 pub mod Apart

@@ -13,7 +13,7 @@ use Rattle.rules.specs.Replay.{isAccepted, step, replay}
 use Rattle.rules.specs.State.{State}
 use Rattle.rules.proofs.Acceptance.{begins}
 use Rattle.rules.proofs.Ranges.{InRange, range-kept}
-use Rattle.rules.proofs.Replayed.{step-by}
+use Rattle.rules.proofs.Stepped.{step-by}
 
 module _ (Holds : State → Type 0) (keeps : (s : State) (call : Heard) → isAccepted s call ≡ true → Holds s → Holds (accept s call)) where
   pub step-keeps : (s : State) (call : Heard) → Holds s → Holds (step s call)

@@ -8,13 +8,14 @@ use lib.Dec.{eqb, leb}
 use borrow.Author.Tests.{leb-true, eqb-true, eqb-false}
 use Rattle.units.specs.Range.{fromTo}
 use Rattle.units.specs.Wave.{driven}
+use Rattle.duty.specs.DutyFor.{IsGreatest}
 use Rattle.pilot.specs.Bands.{bandA, bandB, bandC, bandD, bandE, ready}
 use Rattle.rules.specs.Accepted.{afterLatch, accept}
 use Rattle.rules.specs.Calls.{fault, Heard}
 use Rattle.rules.specs.State.{State, anyFault}
-use Rattle.rules.specs.Step3Wave.{steadyLow, isLetter, isUAE}
+use Rattle.rules.specs.Step3Wave.{steadyLow, steadyHigh, isLetter, isUAE, available}
 use Rattle.rules.proofs.Booleans.{clash}
-use Rattle.rules.proofs.Waves.{Offers, WaveIs, low, high, square, wave-is}
+use Rattle.rules.proofs.Waves.{Offers, WaveIs, low, high, square, wave-is, greatest-driven}
 
 -- the settled states for which a duty is sent
 pub offered : (settled : ℕ) (ventilation : Bool) → isUAE settled ≡ false → eqb settled bandD && not ventilation ≡ false
@@ -56,12 +57,32 @@ module _ (s : State) (call : Heard) where
       to : WaveIs (afterLatch s call) (accept s call .wave) → accept s call .wave ≡ steadyLow → anyFault (accept s call .faults) ≡ true
       to (low is has) e = has
       to (high is none) e = let zero : 1000 ≡ steadyLow = sym is ∙ e in absurd (omega arith)
-      to (square is none offer) e = clash (ap driven (sym e) ∙ is) refl
+      to (square is none offer) e = clash (ap driven (sym e) ∙ greatest-driven (available (afterLatch s call)) (accept s call .wave) is) refl
 
       from : WaveIs (afterLatch s call) (accept s call .wave) → anyFault (accept s call .faults) ≡ true → accept s call .wave ≡ steadyLow
       from (low is has) e = is
       from (high is none) e = clash e none
       from (square is none offer) e = clash e none
+
+  -- 0, 1000 or driven, and driven the greatest allowed duty
+  pub wave-kinds : (accept s call .wave ≡ steadyLow) ⊎ ((accept s call .wave ≡ steadyHigh) ⊎ (driven (accept s call .wave) ≡ true))
+  wave-kinds = go (wave-is (afterLatch s call))
+    where
+      go : WaveIs (afterLatch s call) (accept s call .wave)
+          → (accept s call .wave ≡ steadyLow) ⊎ ((accept s call .wave ≡ steadyHigh) ⊎ (driven (accept s call .wave) ≡ true))
+      go (low is has) = inl is
+      go (high is none) = inr (inl is)
+      go (square is none offer) = inr (inr (greatest-driven (available (afterLatch s call)) (accept s call .wave) is))
+
+  pub driven-greatest : driven (accept s call .wave) ≡ true → IsGreatest (available (accept s call)) (accept s call .wave)
+  unfolding driven fromTo available
+  driven-greatest e = go (wave-is (afterLatch s call)) e
+    where
+      go : WaveIs (afterLatch s call) (accept s call .wave) → driven (accept s call .wave) ≡ true
+          → IsGreatest (available (accept s call)) (accept s call .wave)
+      go (low is has) f = clash f (ap driven is)
+      go (high is none) f = clash f (ap driven is)
+      go (square is none offer) f = is
 
   pub driven-offers : driven (accept s call .wave) ≡ true → (anyFault (accept s call .faults) ≡ false) × Offers (afterLatch s call)
   unfolding driven fromTo

@@ -6,6 +6,7 @@ use native.Mathlib.Nat.{le-refl}
 use native.Mathlib.Omega.{arith}
 use lib.Dec.{eqb, leb}
 use borrow.Author.Tests.{leb-true, le-leb}
+use Rattle.units.specs.Range.{fromTo}
 use Rattle.units.specs.Wave.{driven}
 use Rattle.units.proofs.LevelOrder.{and-parts}
 use Rattle.window.specs.Weighing.{Weighs}
@@ -31,6 +32,12 @@ pub record InRange (s : State) : Type 0 where
   pub opening : storedAllowed (s .last) (s .opening) ≡ true
   pub overrun : storedAllowed (s .last) (s .overrun) ≡ true
   pub stop : storedAllowed (s .last) (s .stop) ≡ true
+
+pub pause-least : (s : State) → InRange s → 1000 ≤ s .settings .pause
+unfolding pauseAllowed fromTo
+pause-least s known =
+    let pause = s .settings .pause in
+    leb-true 1000 pause (and-parts (leb 1000 pause) (leb pause 60000) (known .pause) .0)
 
 pub range-parts : (s : State) → inRange s ≡ true → InRange s
 unfolding inRange timesAllowed

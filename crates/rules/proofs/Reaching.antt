@@ -2,6 +2,7 @@
 use mathlib.Core.Path.{_≡_, refl, sym}
 use mathlib.Core.Bool.{Bool, true, false}
 use mathlib.Core.List.{List}
+use mathlib.Core.Logic.{inl, inr}
 use native.Mathlib.Omega.{arith}
 use Rattle.units.specs.Range.{fromTo}
 use Rattle.units.specs.Wave.{driven}
@@ -16,7 +17,7 @@ use Rattle.rules.specs.Step3Wave.{unventilatedD, available}
 use Rattle.rules.proofs.Booleans.{clash}
 use Rattle.rules.proofs.Lists.{replay-keeps}
 use Rattle.rules.proofs.Samples.{fits}
-use Rattle.rules.proofs.Offering.{offered, wave-low-exactly, driven-offers}
+use Rattle.rules.proofs.Offering.{offered, wave-low-exactly, wave-kinds, driven-greatest, driven-offers}
 use Rattle.rules.proofs.Opened.{no-overrun, no-stop, runs-driven}
 use Rattle.rules.proofs.Held.{left-closed, previous-fits}
 
@@ -33,6 +34,9 @@ steady-kept s call into was =
     record {
       reached = record {
         wave-low = wave-low-exactly s call;
+        wave-kinds = wave-kinds s call;
+        driven-greatest = driven-greatest s call;
+        driven-no-fault = λ e. driven-offers s call e .0;
         driven-settled = λ e.
             let offer = driven-offers s call e .1 in
             offered (accept s call .settled) (s .settings .ventilation) (offer .state) (offer .ventilated);
@@ -59,6 +63,9 @@ fresh-steady begin =
     record {
       reached = record {
         wave-low = (λ e. absurd (omega arith), λ e. clash refl (sym e));
+        wave-kinds = inr (inl refl);
+        driven-greatest = λ e. clash refl (sym e);
+        driven-no-fault = λ e. clash refl (sym e);
         driven-settled = λ e. clash refl (sym e);
         driven-available = λ e. clash refl (sym e);
         open-no-overrun = λ e. refl;

@@ -1,22 +1,23 @@
 -- When each refusal number comes, exactly.
 use mathlib.Core.Path.{_≡_, refl, sym, _∙_, ap}
-use mathlib.Core.Bool.{Bool, true, false, _&&_, cond}
-use mathlib.Core.List.{List, [], _∷_}
+use mathlib.Core.Bool.{Bool, true, false, cond}
+use mathlib.Core.List.{List}
 use mathlib.Core.Logic.{_↔_, _⊎_, inl, inr}
 use Prim.Native.Nat.{ℕ, _≤_, _<_}
 use native.Mathlib.Omega.{arith}
 use lib.Dec.{leb, ltb}
 use lib.IntN.{ℤ}
 use borrow.Author.Tests.{ltb-true, ltb-false, leb-true, leb-false}
-use Rattle.units.specs.Range.{fromTo}
-use Rattle.window.specs.Support.{supported}
-use Rattle.window.specs.Weighing.{Weighs, levels, refused, lengthAllowed, allAllowed, select, levelsOf, supportedLevels, weighing}
-use Rattle.window.proofs.Refusals.{wrong-length, out-of-range, weighed as weighed-levels}
+use Rattle.units.specs.Range.{fromTo, Outside}
+use Rattle.units.proofs.FromTo.{outside-exactly}
+use Rattle.window.specs.Weighing.{Weighs, levels, refused, weighing}
+use Rattle.window.proofs.Laws.{refused-exactly}
 use Rattle.rules.specs.Begin.{largestTime}
 use Rattle.rules.specs.Calls.{Event, Call, sample, limit, measure, fault, clear, tick, weighed, heard}
 use Rattle.rules.specs.Lent.{Lent, altered, lentRefusal}
-use Rattle.rules.specs.RefusalsAre.{OnTime, WrongFor, RefusalsAre}
+use Rattle.rules.specs.RefusalsAre.{Altered, OnTime, Judged, WrongFor, RefusedBy}
 use Rattle.rules.specs.Refusals.{orElse, timeRefusal, windowRefusal, kindAllowed, limitAllowed, measureAllowed, argumentRefusal}
+use Rattle.rules.proofs.Altered.{altered-exactly}
 use Rattle.rules.proofs.Booleans.{clash}
 
 -- the tests in their order
@@ -26,8 +27,8 @@ first late early changed number = orElse (cond late 3 (cond early 2 0)) (orElse 
 pub data Way (lent : Lent) (call : Call) : Type 0 where
   late : lentRefusal lent (heard call) ≡ 3 → largestTime < call .time → Way lent call
   early : lentRefusal lent (heard call) ≡ 2 → call .time ≤ largestTime → call .time < lent .kept .last → Way lent call
-  changed : lentRefusal lent (heard call) ≡ 1 → OnTime lent call → altered lent ≡ true → Way lent call
-  judged : lentRefusal lent (heard call) ≡ argumentRefusal (weighed (call .event)) → OnTime lent call → altered lent ≡ false → Way lent call
+  changed : lentRefusal lent (heard call) ≡ 1 → OnTime lent call → Altered lent → Way lent call
+  judged : lentRefusal lent (heard call) ≡ argumentRefusal (weighed (call .event)) → Judged lent call → Way lent call
 
 way : (lent : Lent) (call : Call) → Way lent call
 unfolding lentRefusal timeRefusal
@@ -41,10 +42,11 @@ way lent call = go (ltb largestTime (call .time)) (ltb (call .time) (lent .kept 
     go true b c p q r = late (is true b c p q r) (ltb-true largestTime (call .time) p)
     go false true c p q r =
         early (is false true c p q r) (ltb-false largestTime (call .time) p) (ltb-true (call .time) (lent .kept .last) q)
-    go false false true p q r =
-        changed (is false false true p q r) (ltb-false largestTime (call .time) p, ltb-false (call .time) (lent .kept .last) q) r
-    go false false false p q r =
-        judged (is false false false p q r) (ltb-false largestTime (call .time) p, ltb-false (call .time) (lent .kept .last) q) r
+    go false false c p q r = by c r (ltb-false largestTime (call .time) p, ltb-false (call .time) (lent .kept .last) q)
+      where
+        by : (c : Bool) → altered lent ≡ c → OnTime lent call → Way lent call
+        by true r on-time = changed (is false false true p q r) on-time (altered-exactly lent .0 r)
+        by false r on-time = judged (is false false false p q r) (on-time, λ known. clash (altered-exactly lent .1 known) r)
 
 -- a number above the most that is allowed
 above-most : (most current number n : ℕ) → 4 ≤ n → (cond (leb current most) 0 number ≡ n) ↔ ((n ≡ number) × (most < current))
@@ -58,20 +60,17 @@ above-most most current number n big = (λ e. to (leb current most) refl e, λ e
     from true p e = let low = leb-true current most p in let high = e .1 in absurd (omega arith)
     from false p e = sym (e .0)
 
-outside : (kind n : ℕ) → 4 ≤ n → (cond (kindAllowed kind) 0 8 ≡ n) ↔ ((n ≡ 8) × ((kind < 3) ⊎ (5 < kind)))
-unfolding kindAllowed fromTo
-outside kind n big = (λ e. to (leb 3 kind) (leb kind 5) refl refl e, λ e. from (leb 3 kind) (leb kind 5) refl refl (e .0) (e .1))
+no-such-kind : (kind n : ℕ) → 4 ≤ n → (cond (kindAllowed kind) 0 8 ≡ n) ↔ ((n ≡ 8) × Outside 3 5 kind)
+unfolding kindAllowed
+no-such-kind kind n big = (λ e. to (fromTo 3 5 kind) refl e, λ e. from (fromTo 3 5 kind) refl e)
   where
-    to : (a b : Bool) → leb 3 kind ≡ a → leb kind 5 ≡ b → cond (a && b) 0 8 ≡ n → (n ≡ 8) × ((kind < 3) ⊎ (5 < kind))
-    to true true p q e = absurd (omega arith)
-    to true false p q e = (sym e, inr (leb-false kind 5 q))
-    to false b p q e = (sym e, inl (leb-false 3 kind p))
+    to : (b : Bool) → fromTo 3 5 kind ≡ b → cond b 0 8 ≡ n → (n ≡ 8) × Outside 3 5 kind
+    to true p e = absurd (omega arith)
+    to false p e = (sym e, outside-exactly 3 5 kind .0 p)
 
-    from : (a b : Bool) → leb 3 kind ≡ a → leb kind 5 ≡ b → n ≡ 8 → (kind < 3) ⊎ (5 < kind) → cond (a && b) 0 8 ≡ n
-    from true true p q is (inl low) = let least = leb-true 3 kind p in absurd (omega arith)
-    from true true p q is (inr high) = let most = leb-true kind 5 q in absurd (omega arith)
-    from true false p q is out = sym is
-    from false b p q is out = sym is
+    from : (b : Bool) → fromTo 3 5 kind ≡ b → (n ≡ 8) × Outside 3 5 kind → cond b 0 8 ≡ n
+    from true p e = clash p (outside-exactly 3 5 kind .1 (e .1))
+    from false p e = sym (e .0)
 
 refused-with : (w : Weighs) (n : ℕ) → 4 ≤ n → (windowRefusal w ≡ n) ↔ (w ≡ refused n)
 refused-with (levels high low) n big = (λ e. absurd (omega arith), λ e. ap windowRefusal e)
@@ -80,35 +79,44 @@ refused-with (refused number) n big = (λ e. ap refused e, λ e. ap windowRefusa
 -- the arguments' refusal, number by number
 arguments : (event : Event (List ℤ)) (n : ℕ) → 4 ≤ n → (argumentRefusal (weighed event) ≡ n) ↔ WrongFor n event
 unfolding weighed argumentRefusal limitAllowed measureAllowed
-arguments (sample window) n big = refused-with (weighing window) n big
+arguments (sample window) n big = (
+  λ e. refused-exactly window n .0 (refused-with (weighing window) n big .0 e),
+  λ wrong. refused-with (weighing window) n big .1 (refused-exactly window n .1 wrong),
+)
 arguments (limit current) n big = above-most 80000 current 7 n big
 arguments (measure current) n big = above-most 200000 current 7 n big
-arguments (fault kind) n big = outside kind n big
+arguments (fault kind) n big = no-such-kind kind n big
 arguments clear n big = (λ e. absurd (omega arith), λ e. absurd e)
 arguments tick n big = (λ e. absurd (omega arith), λ e. absurd e)
 
--- and it is none of 1 to 3
-apart : (b : Bool) (number : ℕ) → 4 ≤ number → (cond b 0 number ≡ 0) ⊎ (4 ≤ cond b 0 number)
-apart true number big = inl refl
-apart false number big = inr big
+-- it is 0 or one of 4 to 8
+abbrev Known : ℕ → Type 0
+Known n = (n ≡ 0) ⊎ ((4 ≤ n) × (n ≤ 8))
 
-window-number : (window : List ℤ) → (windowRefusal (weighing window) ≡ 0) ⊎ (4 ≤ windowRefusal (weighing window))
-unfolding supportedLevels levelsOf
-window-number window = go (lengthAllowed window) (allAllowed window) (select (supported window) window) refl refl refl
-  where
-    go : (a b : Bool) (chosen : List ℤ) → lengthAllowed window ≡ a → allAllowed window ≡ b → select (supported window) window ≡ chosen
-        → (windowRefusal (weighing window) ≡ 0) ⊎ (4 ≤ windowRefusal (weighing window))
-    go false b chosen p q r = inr (rw (wrong-length window p) (omega arith))
-    go true false chosen p q r = inr (rw (out-of-range window p q) (omega arith))
-    go true true [] p q r = inr (rw (weighed-levels window p q, r) (omega arith))
-    go true true (one ∷ more) p q r = inl (rw (weighed-levels window p q, r))
+known-if : (b : Bool) (number : ℕ) → 4 ≤ number → number ≤ 8 → Known (cond b 0 number)
+known-if true number least most = inl refl
+known-if false number least most = inr (least, most)
 
-argument-number : (event : Event (List ℤ)) → (argumentRefusal (weighed event) ≡ 0) ⊎ (4 ≤ argumentRefusal (weighed event))
+wrong-number : (event : Event (List ℤ)) (n : ℕ) → WrongFor n event → (4 ≤ n) × (n ≤ 8)
+wrong-number (sample window) n (inl (is, out)) = (omega arith, omega arith)
+wrong-number (sample window) n (inr (inl (is, one))) = (omega arith, omega arith)
+wrong-number (sample window) n (inr (inr (is, none))) = (omega arith, omega arith)
+wrong-number (limit current) n (is, out) = (omega arith, omega arith)
+wrong-number (measure current) n (is, out) = (omega arith, omega arith)
+wrong-number (fault kind) n (is, out) = (omega arith, omega arith)
+wrong-number clear n none = absurd none
+wrong-number tick n none = absurd none
+
+window-number : (window : List ℤ) (w : Weighs) → weighing window ≡ w → Known (windowRefusal w)
+window-number window (levels high low) e = inl refl
+window-number window (refused number) e = inr (wrong-number (sample window) number (refused-exactly window number .0 e))
+
+argument-number : (event : Event (List ℤ)) → Known (argumentRefusal (weighed event))
 unfolding weighed argumentRefusal
-argument-number (sample window) = window-number window
-argument-number (limit current) = apart (limitAllowed current) 7 (omega arith)
-argument-number (measure current) = apart (measureAllowed current) 7 (omega arith)
-argument-number (fault kind) = apart (kindAllowed kind) 8 (omega arith)
+argument-number (sample window) = window-number window (weighing window) refl
+argument-number (limit current) = known-if (limitAllowed current) 7 (omega arith) (omega arith)
+argument-number (measure current) = known-if (measureAllowed current) 7 (omega arith) (omega arith)
+argument-number (fault kind) = known-if (kindAllowed kind) 8 (omega arith) (omega arith)
 argument-number clear = inl refl
 argument-number tick = inl refl
 
@@ -118,64 +126,92 @@ module _ (lent : Lent) (call : Call) where
       → lentRefusal lent (heard call) ≡ argumentRefusal (weighed (call .event)) → X
   not-judged {X} n some few is same = go (argument-number (call .event))
     where
-      go : (argumentRefusal (weighed (call .event)) ≡ 0) ⊎ (4 ≤ argumentRefusal (weighed (call .event))) → X
+      go : Known (argumentRefusal (weighed (call .event))) → X
       go (inl none) = absurd (omega arith)
-      go (inr big) = absurd (omega arith)
+      go (inr big) = absurd (omega (arith, big .0))
 
-  pub refusals-are : RefusalsAre lent call
-  refusals-are =
+  pub refused-by : RefusedBy lent call (lentRefusal lent (heard call))
+  refused-by =
       record {
         three = (λ e. three (way lent call) e, λ h. three-back (way lent call) h);
         two = (λ e. two (way lent call) e, λ h. two-back (way lent call) h);
         one = (λ e. one (way lent call) e, λ h. one-back (way lent call) h);
         later = λ n big. (λ e. later n big (way lent call) e, λ h. later-back n big (way lent call) h);
+        none = (λ e. none (way lent call) e, λ h. none-back (way lent call) (argument-number (call .event)) h);
+        no-other = few (way lent call) (argument-number (call .event));
       }
     where
       three : Way lent call → lentRefusal lent (heard call) ≡ 3 → largestTime < call .time
       three (late is h) e = h
       three (early is h k) e = absurd (omega arith)
       three (changed is h k) e = absurd (omega arith)
-      three (judged is h k) e = not-judged 3 (omega arith) (omega arith) e is
+      three (judged is h) e = not-judged 3 (omega arith) (omega arith) e is
 
       three-back : Way lent call → largestTime < call .time → lentRefusal lent (heard call) ≡ 3
       three-back (late is h) after = is
       three-back (early is h k) after = absurd (omega arith)
       three-back (changed is h k) after = absurd (omega arith)
-      three-back (judged is h k) after = absurd (omega arith)
+      three-back (judged is h) after = absurd (omega (arith, h .0))
 
       two : Way lent call → lentRefusal lent (heard call) ≡ 2 → (call .time ≤ largestTime) × (call .time < lent .kept .last)
       two (late is h) e = absurd (omega arith)
       two (early is h k) e = (h, k)
       two (changed is h k) e = absurd (omega arith)
-      two (judged is h k) e = not-judged 2 (omega arith) (omega arith) e is
+      two (judged is h) e = not-judged 2 (omega arith) (omega arith) e is
 
       two-back : Way lent call → (call .time ≤ largestTime) × (call .time < lent .kept .last) → lentRefusal lent (heard call) ≡ 2
       two-back (late is h) before = absurd (omega arith)
       two-back (early is h k) before = is
       two-back (changed is h k) before = absurd (omega arith)
-      two-back (judged is h k) before = absurd (omega arith)
+      two-back (judged is h) before = absurd (omega (arith, h .0))
 
-      one : Way lent call → lentRefusal lent (heard call) ≡ 1 → OnTime lent call × (altered lent ≡ true)
+      one : Way lent call → lentRefusal lent (heard call) ≡ 1 → OnTime lent call × Altered lent
       one (late is h) e = absurd (omega arith)
       one (early is h k) e = absurd (omega arith)
       one (changed is h k) e = (h, k)
-      one (judged is h k) e = not-judged 1 (omega arith) (omega arith) e is
+      one (judged is h) e = not-judged 1 (omega arith) (omega arith) e is
 
-      one-back : Way lent call → OnTime lent call × (altered lent ≡ true) → lentRefusal lent (heard call) ≡ 1
+      one-back : Way lent call → OnTime lent call × Altered lent → lentRefusal lent (heard call) ≡ 1
       one-back (late is h) both = absurd (omega (arith, both .0))
       one-back (early is h k) both = absurd (omega (arith, both .0))
       one-back (changed is h k) both = is
-      one-back (judged is h k) both = clash (both .1) k
+      one-back (judged is h) both = absurd (h .1 (both .1))
 
-      later : (n : ℕ) → 4 ≤ n → Way lent call → lentRefusal lent (heard call) ≡ n → OnTime lent call × (altered lent ≡ false) × WrongFor n (call .event)
+      later : (n : ℕ) → 4 ≤ n → Way lent call → lentRefusal lent (heard call) ≡ n → Judged lent call × WrongFor n (call .event)
       later n big (late is h) e = absurd (omega arith)
       later n big (early is h k) e = absurd (omega arith)
       later n big (changed is h k) e = absurd (omega arith)
-      later n big (judged is h k) e = (h, k, arguments (call .event) n big .0 (sym is ∙ e))
+      later n big (judged is h) e = (h, arguments (call .event) n big .0 (sym is ∙ e))
 
-      later-back : (n : ℕ) → 4 ≤ n → Way lent call → OnTime lent call × (altered lent ≡ false) × WrongFor n (call .event)
-          → lentRefusal lent (heard call) ≡ n
-      later-back n big (late is h) all = absurd (omega (arith, all .0))
-      later-back n big (early is h k) all = absurd (omega (arith, all .0))
-      later-back n big (changed is h k) all = clash k (all .1)
-      later-back n big (judged is h k) all = is ∙ arguments (call .event) n big .1 (all .2)
+      later-back : (n : ℕ) → 4 ≤ n → Way lent call → Judged lent call × WrongFor n (call .event) → lentRefusal lent (heard call) ≡ n
+      later-back n big (late is h) all = absurd (omega (arith, all .0 .0))
+      later-back n big (early is h k) all = absurd (omega (arith, all .0 .0))
+      later-back n big (changed is h k) all = absurd (all .0 .1 k)
+      later-back n big (judged is h) all = is ∙ arguments (call .event) n big .1 (all .1)
+
+      none : Way lent call → lentRefusal lent (heard call) ≡ 0 → Judged lent call × ((n : ℕ) → WrongFor n (call .event) → ⊥)
+      none (late is h) e = absurd (omega arith)
+      none (early is h k) e = absurd (omega arith)
+      none (changed is h k) e = absurd (omega arith)
+      none (judged is h) e = (
+        h,
+        λ n wrong.
+            let big = wrong-number (call .event) n wrong .0 in
+            let same = arguments (call .event) n big .1 wrong in
+            absurd (omega arith),
+      )
+
+      none-back : Way lent call → Known (argumentRefusal (weighed (call .event))) → Judged lent call × ((n : ℕ) → WrongFor n (call .event) → ⊥)
+          → lentRefusal lent (heard call) ≡ 0
+      none-back (late is h) number all = absurd (omega (arith, all .0 .0))
+      none-back (early is h k) number all = absurd (omega (arith, all .0 .0))
+      none-back (changed is h k) number all = absurd (all .0 .1 k)
+      none-back (judged is h) (inl zero) all = is ∙ zero
+      none-back (judged is h) (inr big) all = absurd (all .1 _ (arguments (call .event) _ (big .0) .0 refl))
+
+      few : Way lent call → Known (argumentRefusal (weighed (call .event))) → lentRefusal lent (heard call) ≤ 8
+      few (late is h) number = omega arith
+      few (early is h k) number = omega arith
+      few (changed is h k) number = omega arith
+      few (judged is h) (inl zero) = omega arith
+      few (judged is h) (inr big) = omega (arith, big .1)

@@ -1,12 +1,12 @@
 -- Which sample is the previous one: the last accepted sample, with no opening from it on.
 use mathlib.Core.Path.{_≡_, refl, sym, _∙_, ap}
-use mathlib.Core.Bool.{Bool, true, false}
+use mathlib.Core.Bool.{Bool, true, false, cond}
 use Prim.Native.Nat.{ℕ, zero, suc, _≤_, _<_}
 use native.Mathlib.Decide.{decLt}
 use native.Mathlib.Omega.{arith}
 use Rattle.rules.specs.Claim.{Trace, Closing, Successive, Proves}
 use Rattle.rules.proofs.Booleans.{clash}
-use Rattle.rules.proofs.Lawful.{Kept, Lawful, Law, Meets, Outcome, refused, stays, shuts, opens, outcome}
+use Rattle.rules.proofs.Lawful.{Kept, previousBy, Lawful, Law, Meets, Outcome, refused, stays, shuts, opens, outcome}
 
 module _ (t : Trace) (kept : Kept) (laws : Lawful t kept) where
   -- the sample j is the previous one before call k
@@ -55,13 +55,13 @@ module _ (t : Trace) (kept : Kept) (laws : Lawful t kept) where
             not-opening (rw (← is) closed) (rw (← is) opened)
 
     -- call k is the sample
-    newest : t .accepted k ≡ true → t .sampled k ≡ true → Remembered k (suc k)
-    newest into is-sample =
+    newest : t .accepted k ≡ true → t .sampled k ≡ true → kept .previous (suc k) .verdict ≡ t .verdict k → Remembered k (suc k)
+    newest into is-sample own =
         record {
           before = omega arith;
           accepted = into;
           sampled = is-sample;
-          verdict = law .previous-sample into is-sample keeps;
+          verdict = own;
           none-between = λ i after below accepted. absurd (omega arith);
           no-opening = λ o from below closed opened.
               let is : o ≡ k = omega arith in
@@ -70,22 +70,26 @@ module _ (t : Trace) (kept : Kept) (laws : Lawful t kept) where
 
   pub remembered : (k : ℕ) → k ≤ t .length → kept .previous k .kept ≡ true → (j : ℕ) × Remembered j k
   remembered zero within keeps = clash keeps (laws .starts-alone)
-  remembered (suc k) within keeps = go (t .accepted k) (t .sampled k) refl refl (remembered k (omega arith))
+  remembered (suc k) within keeps =
+      go (t .accepted k) (kept .forgets k) (t .sampled k) refl refl (law .previous-next) (remembered k (omega arith))
     where
       law : Law t kept k
       law = laws .each k within
 
-      go : (a s : Bool) → t .accepted k ≡ a → t .sampled k ≡ s → (kept .previous k .kept ≡ true → (j : ℕ) × Remembered j k)
-          → (j : ℕ) × Remembered j (suc k)
-      go false s out kind earlier =
-          let same = law .previous-refused out in
+      -- the previous sample is the one before call k
+      same-as : kept .previous (suc k) ≡ kept .previous k → (t .accepted k ≡ true → t .sampled k ≡ false)
+          → (kept .previous k .kept ≡ true → (j : ℕ) × Remembered j k) → (j : ℕ) × Remembered j (suc k)
+      same-as same here earlier =
           let known = earlier (sym (ap (λ p. p .kept) same) ∙ keeps) in
-          (known .0, longer k law keeps (known .0) (known .1) same (λ into. clash into out))
-      go true true into kind earlier = (k, newest k law keeps into kind)
-      go true false into kind earlier =
-          let same = law .previous-other into kind keeps in
-          let known = earlier (sym (ap (λ p. p .kept) same) ∙ keeps) in
-          (known .0, longer k law keeps (known .0) (known .1) same (λ again. kind))
+          (known .0, longer k law keeps (known .0) (known .1) same here)
+
+      go : (a f s : Bool) → t .accepted k ≡ a → t .sampled k ≡ s
+          → kept .previous (suc k) ≡ cond a (previousBy f s (t .verdict k) (kept .previous k)) (kept .previous k)
+          → (kept .previous k .kept ≡ true → (j : ℕ) × Remembered j k) → (j : ℕ) × Remembered j (suc k)
+      go false f s out kind is earlier = same-as is (λ into. clash into out) earlier
+      go true true s into kind is earlier = clash keeps (ap (λ p. p .kept) is)
+      go true false true into kind is earlier = (k, newest k law keeps into kind (ap (λ p. p .verdict) is))
+      go true false false into kind is earlier = same-as is (λ again. kind) earlier
 
   -- a closing is an accepted call that met every closing condition
   pub closing-meets : (k : ℕ) → Closing t k → (t .accepted k ≡ true) × Meets t kept k

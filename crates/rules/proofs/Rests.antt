@@ -62,7 +62,7 @@ module _ (t : Trace) (kept : Kept) (laws : Lawful t kept) where
       go (inl closed) = clash closed (second .1)
       go (inr known) = known
 
-  pub paused : (i o k : ℕ) → Closing t k → LastOpening i o k → t .time o + t .pause ≤ t .time k
+  pub paused : (i o k : ℕ) → Closing t k → LastOpening i o k → t .time o + t .pause k ≤ t .time k
   paused i o k second known =
       let meets = closing-meets t kept laws k second .1 in
       let set = ap (λ m. m .set) (known .stored) in

@@ -3,9 +3,9 @@ use mathlib.Core.Path.{_≡_, refl, sym, _∙_}
 use mathlib.Core.Bool.{Bool, true, false, _&&_, not, cond}
 use Prim.Native.Nat.{ℕ, zero, suc, _+_, _*_, _-_, _≤_, _<_}
 use native.Mathlib.Decide.{decLt}
-use native.Mathlib.Nat.{not-suc-le-zero, mul-le-mul-left}
+use native.Mathlib.Nat.{not-suc-le-zero}
 use native.Mathlib.Omega.{arith}
-use Rattle.rules.specs.Claim.{Trace, Closing, closingsIn, Spans}
+use Rattle.rules.specs.Claim.{Trace, Closing, closingsIn, leastPause, Spans}
 use Rattle.rules.specs.Lent.{mostClosings}
 use Rattle.rules.specs.Step5Closing.{closingsBy}
 use Rattle.rules.proofs.Booleans.{clash}
@@ -51,8 +51,8 @@ module _ (t : Trace) (kept : Kept) (laws : Lawful t kept) where
   is-tested : (k : ℕ) → Closing t k → closesIn k ≡ true
   is-tested k closing = rw (closing .1, closing .2)
 
-  -- the first and the last closing among the first n calls
-  pub record SpansIn (n : ℕ) : Type 0 where
+  -- the first and the last closing among the first n calls, so far apart that a pause of `least` fits between any two
+  pub record SpansIn (least n : ℕ) : Type 0 where
     pub first : ℕ
     pub first-closes : Closing t first
     pub none-before : (k : ℕ) → k < first → Closing t k → ⊥
@@ -60,7 +60,7 @@ module _ (t : Trace) (kept : Kept) (laws : Lawful t kept) where
     pub last-closes : Closing t last
     pub last-below : last < n
     pub none-after : (k : ℕ) → last < k → k < n → Closing t k → ⊥
-    pub spaced : (c : ℕ) → closingsIn t n ≡ suc c → c * t .pause + t .time first ≤ t .time last
+    pub spaced : (c : ℕ) → closingsIn t n ≡ suc c → c * least + t .time first ≤ t .time last
 
   none-counted : (n k : ℕ) → closingsIn t n ≡ 0 → k < n → Closing t k → ⊥
   none-counted zero k none below closing = not-suc-le-zero below
@@ -74,11 +74,16 @@ module _ (t : Trace) (kept : Kept) (laws : Lawful t kept) where
           let is : k ≡ n = omega arith in
           clash (rw is at (is-tested k closing)) e
 
-  pub spans-in : (n : ℕ) → n ≤ t .length → 1 ≤ closingsIn t n → SpansIn n
-  spans-in zero within some = absurd (not-suc-le-zero some)
-  spans-in (suc n) within some = go (closesIn n) refl (closingsIn t n) refl (spans-in n (omega arith)) some
+  -- no pause in force at a call is below `least`
+  abbrev AtLeast : ℕ → Type 0
+  AtLeast least = (k : ℕ) → k ≤ t .length → least ≤ t .pause k
+
+  pub spans-in : (least : ℕ) → AtLeast least → (n : ℕ) → n ≤ t .length → 1 ≤ closingsIn t n → SpansIn least n
+  spans-in least pauses zero within some = absurd (not-suc-le-zero some)
+  spans-in least pauses (suc n) within some =
+      go (closesIn n) refl (closingsIn t n) refl (spans-in least pauses n (omega arith)) some
     where
-      later : closesIn n ≡ false → SpansIn n → SpansIn (suc n)
+      later : closesIn n ≡ false → SpansIn least n → SpansIn least (suc n)
       later e known =
           record {
             first = known .first;
@@ -97,7 +102,7 @@ module _ (t : Trace) (kept : Kept) (laws : Lawful t kept) where
               let is : k ≡ n = omega arith in
               clash (rw is at (is-tested k closing)) e
 
-      only : closesIn n ≡ true → closingsIn t n ≡ 0 → SpansIn (suc n)
+      only : closesIn n ≡ true → closingsIn t n ≡ 0 → SpansIn least (suc n)
       only e none =
           record {
             first = n;
@@ -110,7 +115,7 @@ module _ (t : Trace) (kept : Kept) (laws : Lawful t kept) where
             spaced = λ c count. let is : c ≡ 0 = omega (arith, rw e at count) in rw is (omega arith);
           }
 
-      another : (c : ℕ) → closesIn n ≡ true → closingsIn t n ≡ suc c → SpansIn n → SpansIn (suc n)
+      another : (c : ℕ) → closesIn n ≡ true → closingsIn t n ≡ suc c → SpansIn least n → SpansIn least (suc n)
       another c e count known =
           record {
             first = known .first;
@@ -122,7 +127,7 @@ module _ (t : Trace) (kept : Kept) (laws : Lawful t kept) where
             none-after = λ k after below closing. absurd (omega arith);
             spaced = λ d more.
                 let is : d ≡ suc c = omega (arith, rw e at more) in
-                rw is (omega (arith, known .spaced c count, paused t kept laws (known .last) (gap .0) n here (gap .1), ordered));
+                rw is (omega (arith, known .spaced c count, paused t kept laws (known .last) (gap .0) n here (gap .1), ordered, pauses n (omega arith)));
           }
         where
           here : Closing t n
@@ -136,27 +141,39 @@ module _ (t : Trace) (kept : Kept) (laws : Lawful t kept) where
               in-order (known .last) (gap .0) (closing-meets t kept laws (known .last) (known .last-closes) .0) (gap .1 .accepted)
               (gap .1 .after-closing) (omega (arith, gap .1 .before))
 
-      go : (b : Bool) → closesIn n ≡ b → (c : ℕ) → closingsIn t n ≡ c → (1 ≤ closingsIn t n → SpansIn n)
-          → 1 ≤ cond b (suc (closingsIn t n)) (closingsIn t n) → SpansIn (suc n)
+      go : (b : Bool) → closesIn n ≡ b → (c : ℕ) → closingsIn t n ≡ c → (1 ≤ closingsIn t n → SpansIn least n)
+          → 1 ≤ cond b (suc (closingsIn t n)) (closingsIn t n) → SpansIn least (suc n)
       go false e c count earlier some′ = later e (earlier some′)
       go true e zero count earlier some′ = only e count
       go true e (suc c) count earlier some′ = another c e count (earlier (omega arith))
 
-  -- so many pauses fit between the first time and the largest
+  -- so many pauses of 1,000 fit between the first time and the largest
   pub at-most : (n : ℕ) → n ≤ t .length → closingsIn t n ≤ mostClosings
   at-most n within = go (closingsIn t n) refl
     where
       go : (c : ℕ) → closingsIn t n ≡ c → c ≤ mostClosings
       go zero e = omega arith
       go (suc c) e =
-          let known = spans-in n within (omega arith) in
+          let known = spans-in 1000 (laws .pause-least) n within (omega arith) in
           let late = laws .each (known .last) (known .last-closes .0) .not-late (closing-meets t kept laws (known .last) (known .last-closes) .0) in
-          let wide : c * 1000 ≤ c * t .pause = mul-le-mul-left c (laws .pause-least) in
-          omega (arith, known .spaced c e, late, wide)
+          omega (arith, known .spaced c e, late)
+
+  -- the least pause is not above any of them
+  pub least-of : (n k : ℕ) → k ≤ n → leastPause t n ≤ t .pause k
+  least-of zero k within =
+      let is : k ≡ 0 = omega arith in
+      rw is (omega arith)
+  least-of (suc n) k within = go (decLt k (suc n)) (λ less. least-of n k less)
+    where
+      go : Dec (k < suc n) → (k ≤ n → leastPause t n ≤ t .pause k) → leastPause t (suc n) ≤ t .pause k
+      go (yes less) earlier = omega (arith, earlier (omega arith))
+      go (no more) earlier =
+          let is : k ≡ suc n = omega arith in
+          rw is (omega arith)
 
   pub spans : 1 ≤ closingsIn t (t .length) → Spans t
   spans some =
-      let known = spans-in (t .length) (omega arith) some in
+      let known = spans-in (leastPause t (t .length)) (least-of (t .length)) (t .length) (omega arith) some in
       record {
         first = known .first;
         first-closes = known .first-closes;
@@ -167,7 +184,7 @@ module _ (t : Trace) (kept : Kept) (laws : Lawful t kept) where
         spaced = wide known;
       }
     where
-      wide : (known : SpansIn (t .length)) → (closingsIn t (t .length) - 1) * t .pause ≤ t .time (known .last) - t .time (known .first)
+      wide : (known : SpansIn (leastPause t (t .length)) (t .length)) → (closingsIn t (t .length) - 1) * leastPause t (t .length) ≤ t .time (known .last) - t .time (known .first)
       wide known =
           let count : closingsIn t (t .length) ≡ suc (closingsIn t (t .length) - 1) = omega arith in
           omega (arith, known .spaced (closingsIn t (t .length) - 1) count)

@@ -1,13 +1,14 @@
 -- What the wave of step 3 is: 0, 1000 or a driven one, and what a driven one tells.
 use mathlib.Core.Path.{_≡_, refl}
 use mathlib.Core.Bool.{Bool, true, false, _||_, cond}
+use mathlib.Core.Logic.{_↔_}
 use Prim.Native.Nat.{ℕ, _≤_}
 use lib.Dec.{eqb, ltb}
-use borrow.Author.Tests.{ltb-false}
+use borrow.Author.Tests.{ltb-false, le-ltb}
 use Rattle.units.specs.Range.{fromTo}
 use Rattle.units.specs.Wave.{driven}
 use Rattle.units.proofs.FromTo.{inside}
-use Rattle.duty.specs.DutyFor.{dutyFor}
+use Rattle.duty.specs.DutyFor.{dutyFor, IsGreatest}
 use Rattle.duty.proofs.Laws.{greatest}
 use Rattle.rules.specs.Lent.{waveAllowed}
 use Rattle.rules.specs.State.{State, anyFault}
@@ -20,10 +21,19 @@ pub record Offers (s : State) : Type 0 where
   pub state : isUAE (s .settled) ≡ false
   pub ventilated : unventilatedD s ≡ false
 
+-- the greatest allowed duty is one of a driven wave
+pub greatest-driven : (available duty : ℕ) → IsGreatest available duty → driven duty ≡ true
+unfolding driven
+greatest-driven available duty is = inside 100 960 duty (is .least) (is .most)
+
 module _ (s : State) where
-  offers : heldHigh s ≡ false → Offers s
+  -- a duty is sent, if there is no fault, exactly if these hold
+  pub offers-exactly : (heldHigh s ≡ false) ↔ Offers s
   unfolding heldHigh
-  offers e = go (ltb (available s) 6000) (isUAE (s .settled)) (unventilatedD s) refl refl refl e
+  offers-exactly = (
+    λ e. go (ltb (available s) 6000) (isUAE (s .settled)) (unventilatedD s) refl refl refl e,
+    λ offer. rw (le-ltb (available s) 6000 (offer .enough), offer .state, offer .ventilated),
+  )
     where
       go : (low state plain : Bool) → ltb (available s) 6000 ≡ low → isUAE (s .settled) ≡ state → unventilatedD s ≡ plain
           → low || (state || plain) ≡ false → Offers s
@@ -32,18 +42,18 @@ module _ (s : State) where
       go false false true p q r f = clash refl f
       go false false false p q r f = record { enough = ltb-false (available s) 6000 p; state = q; ventilated = r }
 
-  -- the duty that is sent is from 100 to 960
-  sent-driven : 6000 ≤ available s → driven (sent (dutyFor (available s))) ≡ true
-  unfolding sent driven
-  sent-driven enough =
+  -- the duty that is sent is the greatest allowed one
+  sent-greatest : 6000 ≤ available s → IsGreatest (available s) (sent (dutyFor (available s)))
+  unfolding sent
+  sent-greatest enough =
       let known = greatest (available s) enough in
-      rw (known .1) (inside 100 960 (known .0) (known .2 .least) (known .2 .most))
+      rw (known .1) (known .2)
 
   -- the three kinds of wave
   pub data WaveIs (wave : ℕ) : Type 0 where
     low : wave ≡ steadyLow → anyFault (s .faults) ≡ true → WaveIs wave
     high : wave ≡ steadyHigh → anyFault (s .faults) ≡ false → WaveIs wave
-    square : driven wave ≡ true → anyFault (s .faults) ≡ false → Offers s → WaveIs wave
+    square : IsGreatest (available s) wave → anyFault (s .faults) ≡ false → Offers s → WaveIs wave
 
   pub wave-is : WaveIs (waveFor s)
   unfolding waveFor
@@ -52,7 +62,7 @@ module _ (s : State) where
       go : (f h : Bool) → anyFault (s .faults) ≡ f → heldHigh s ≡ h → WaveIs (cond f steadyLow (cond h steadyHigh (sent (dutyFor (available s)))))
       go true h p q = low refl p
       go false true p q = high refl p
-      go false false p q = square (sent-driven (offers q .enough)) p (offers q)
+      go false false p q = square (sent-greatest (offers-exactly .0 q .enough)) p (offers-exactly .0 q)
 
   pub wave-allowed : waveAllowed (waveFor s) ≡ true
   unfolding waveAllowed driven fromTo
@@ -65,4 +75,4 @@ module _ (s : State) where
       go : (wave : ℕ) → WaveIs wave → waveAllowed wave ≡ true
       go wave (low is fault) = rw is
       go wave (high is none) = rw is
-      go wave (square is none offer) = rw is (either (eqb wave steadyLow) (eqb wave steadyHigh))
+      go wave (square is none offer) = rw (greatest-driven (available s) wave is) (either (eqb wave steadyLow) (eqb wave steadyHigh))

@@ -2,7 +2,7 @@
 use mathlib.Core.Path.{_≡_}
 use mathlib.Core.Bool.{Bool, true, false, _&&_, not, cond}
 use mathlib.Core.Logic.{_↔_}
-use Prim.Native.Nat.{ℕ, zero, suc, _+_, _*_, _-_, _≤_, _<_}
+use Prim.Native.Nat.{ℕ, zero, suc, _+_, _*_, _-_, min, _≤_, _<_}
 use Rattle.pilot.specs.declared.verdicts.Verdict.{Verdict}
 use Rattle.pilot.specs.Bands.{noBand}
 use Rattle.rules.specs.Lent.{mostClosings}
@@ -22,8 +22,8 @@ pub record Trace : Type 0 where
   -- call k meets every closing condition; an opening cause holds in it
   pub closes : ℕ → Bool
   pub cause : ℕ → Bool
-  -- the pause in force
-  pub pause : ℕ
+  -- the pause in force when call k is made
+  pub pause : ℕ → ℕ
 
 module _ (t : Trace) where
   abbrev pub Accepted : ℕ → Type 0
@@ -60,18 +60,24 @@ module _ (t : Trace) where
     pub one-band : t .verdict j .band ≡ t .verdict k .band
     pub has-band : t .verdict k .band ≡ noBand → ⊥
 
-  -- between closing i and closing k with its samples j and k: an opening before both samples, and the pause before the closing
+  -- between closing i and closing k with its samples j and k: an opening before both samples, and before the closing the pause that is in
+  -- force there
   pub record Rested (i j k : ℕ) : Type 0 where
     pub opening : ℕ
     pub opens : Opening opening
     pub after-closing : i < opening
     pub before-samples : opening < j
-    pub paused : t .time opening + t .pause ≤ t .time k
+    pub paused : t .time opening + t .pause k ≤ t .time k
 
   -- how many of the first n calls are closings
   abbrev pub closingsIn : ℕ → ℕ
   closingsIn zero = 0
   closingsIn (suc k) = cond (not (t .told k) && t .told (suc k)) (suc (closingsIn k)) (closingsIn k)
+
+  -- the least pause in force in the first n calls and after them
+  abbrev pub leastPause : ℕ → ℕ
+  leastPause zero = t .pause 0
+  leastPause (suc k) = min (leastPause k) (t .pause (suc k))
 
   -- the span: the time of the last closing less that of the first
   pub record Spans : Type 0 where
@@ -81,7 +87,7 @@ module _ (t : Trace) where
     pub last : ℕ
     pub last-closes : Closing last
     pub none-after : (k : ℕ) → last < k → Closing k → ⊥
-    pub spaced : (closingsIn (t .length) - 1) * t .pause ≤ t .time last - t .time first
+    pub spaced : (closingsIn (t .length) - 1) * leastPause (t .length) ≤ t .time last - t .time first
 
   -- demand 3
   pub record Demand3 : Type 0 where

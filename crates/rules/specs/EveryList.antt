@@ -6,21 +6,27 @@ use mathlib.Core.Logic.{_↔_, _⊎_}
 use Prim.Native.Nat.{ℕ, suc, _+_, _≤_, _<_}
 use lib.ListN.{length}
 use Rattle.units.specs.Wave.{driven}
+use Rattle.duty.specs.DutyFor.{IsGreatest}
 use Rattle.pilot.specs.Bands.{bandB, ready}
-use Rattle.rules.specs.Begin.{Begin}
+use Rattle.rules.specs.Begin.{Begin, pauseFor, fresh}
 use Rattle.rules.specs.Calls.{Call}
-use Rattle.rules.specs.Claim.{Demand3}
+use Rattle.rules.specs.Claim.{leastPause, Demand3}
+use Rattle.rules.specs.Every20.{ClosedIsSound}
 use Rattle.rules.specs.Lent.{altered}
 use Rattle.rules.specs.Refusals.{refusal}
-use Rattle.rules.specs.Replay.{replay}
 use Rattle.rules.specs.State.{State, anyFault}
-use Rattle.rules.specs.Step3Wave.{steadyLow, available}
+use Rattle.rules.specs.Step3Wave.{steadyLow, steadyHigh, available}
 use Rattle.rules.specs.Traces.{before, callAt, lentAt, replyBefore, answered}
 
 -- what is true of every state that a list leads to
 pub record Reached (s : State) : Type 0 where
+  -- the wave: steady -12 V exactly under a fault, else steady +12 V or driven
   pub wave-low : (s .wave ≡ steadyLow) ↔ (anyFault (s .faults) ≡ true)
-  -- a driven wave: B, C or ventilated D settled, and 6,000 or more available
+  pub wave-kinds : (s .wave ≡ steadyLow) ⊎ ((s .wave ≡ steadyHigh) ⊎ (driven (s .wave) ≡ true))
+  -- driven, it is the greatest allowed duty for the lesser of rated and limit (demand 2)
+  pub driven-greatest : driven (s .wave) ≡ true → IsGreatest (available s) (s .wave)
+  -- and there is no fault, B, C or ventilated D is settled, and 6,000 or more is available
+  pub driven-no-fault : driven (s .wave) ≡ true → anyFault (s .faults) ≡ false
   pub driven-settled : driven (s .wave) ≡ true → (s .settled ≡ bandB) ⊎ (ready (s .settled) (s .settings .ventilation) ≡ true)
   pub driven-available : driven (s .wave) ≡ true → 6000 ≤ available s
   -- open: no over-run and no stop
@@ -45,4 +51,10 @@ pub record EveryList (begin : Begin) (calls : List Call) : Type 0 where
   pub held : (k : ℕ) → k ≤ length calls → lentAt begin calls k .kept .closed ≡ replyBefore begin calls k .closed
   pub carried : (k : ℕ) → k ≤ length calls → lentAt begin calls k .closings ≡ replyBefore begin calls k .closings
   pub not-altered : (k : ℕ) → k ≤ length calls → altered (lentAt begin calls k) ≡ false
-  pub reached : Reached (replay begin calls)
+  -- what every state on the way has
+  pub reached : (k : ℕ) → k ≤ length calls → Reached (before begin calls k)
+  -- begin's settings stay, so the least pause of the claim's span is begin's
+  pub settings-are : (k : ℕ) → before begin calls k .settings ≡ fresh begin .settings
+  pub least-pause : leastPause (answered begin calls) (length calls) ≡ pauseFor (begin .pause)
+  -- what a board gets that calls every 20 ms
+  pub closed-is-sound : ClosedIsSound (answered begin calls)

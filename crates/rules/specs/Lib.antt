@@ -16,6 +16,7 @@ pub mod Reply
 pub mod Answer
 pub mod Claim
 pub mod Traces
+pub mod Every20
 pub mod EveryList
 pub mod Sequences
 pub mod BenchRows

@@ -1,43 +1,72 @@
 -- When each refusal number comes, exactly: demand 1 of begin, and of a call that is lent any controller, altered or not.
 -- Proved in proofs/RefusalsAre.antt and proofs/BeginRefusals.antt.
 use mathlib.Core.Path.{_≡_}
-use mathlib.Core.Bool.{true, false}
+use mathlib.Core.Bool.{true}
 use mathlib.Core.List.{List}
 use mathlib.Core.Logic.{_↔_, _⊎_}
 use Prim.Native.Nat.{ℕ, _≤_, _<_}
 use lib.IntN.{ℤ}
-use Rattle.window.specs.Weighing.{refused, weighing}
-use Rattle.rules.specs.Begin.{Begin, largestTime, beginRefusal}
-use Rattle.rules.specs.Calls.{Event, Call, sample, limit, measure, fault, clear, tick, heard}
-use Rattle.rules.specs.Lent.{Lent, altered, lentRefusal}
+use Rattle.units.specs.Range.{Outside}
+use Rattle.window.specs.Laws.{RefusedFor}
+use Rattle.rules.specs.Begin.{Begin, largestTime}
+use Rattle.rules.specs.Calls.{Event, Call, sample, limit, measure, fault, clear, tick}
+use Rattle.rules.specs.Lent.{Lent, mostClosings}
+use Rattle.rules.specs.State.{Moment}
+use Rattle.rules.specs.Step3Wave.{steadyLow, steadyHigh}
 
--- neither refusal 3 nor 2: the time is on the scale and does not go back
+-- a wave out of its range: neither steady nor driven
+abbrev pub WaveOut : ℕ → Type 0
+WaveOut wave = (wave ≡ steadyLow → ⊥) × Outside 100 960 wave × (wave ≡ steadyHigh → ⊥)
+
+-- a stored time above the last accepted one
+abbrev pub StoredAbove : ℕ → Moment → Type 0
+StoredAbove last stored = (stored .set ≡ true) × (last < stored .time)
+
+-- what refusal 1 comes for: a lent controller that the host has altered so that one of these holds
+pub data Altered (lent : Lent) : Type 0 where
+  wave-out : WaveOut (lent .kept .wave) → Altered lent
+  limit-out : 80000 < lent .kept .limit → Altered lent
+  rated-out : Outside 6000 80000 (lent .kept .settings .rated) → Altered lent
+  pause-out : Outside 1000 60000 (lent .kept .settings .pause) → Altered lent
+  sound-above : StoredAbove (lent .kept .last) (lent .kept .sound) → Altered lent
+  opening-above : StoredAbove (lent .kept .last) (lent .kept .opening) → Altered lent
+  overrun-above : StoredAbove (lent .kept .last) (lent .kept .overrun) → Altered lent
+  stop-above : StoredAbove (lent .kept .last) (lent .kept .stop) → Altered lent
+  closings-out : mostClosings < lent .closings → Altered lent
+
+-- neither 3 nor 2: the time is on the scale and does not go back
 abbrev pub OnTime : Lent → Call → Type 0
 OnTime lent call = (call .time ≤ largestTime) × (lent .kept .last ≤ call .time)
 
--- the arguments are refused with a number; which window is refused with which is window's to say
+-- nor 1: the arguments are looked at
+abbrev pub Judged : Lent → Call → Type 0
+Judged lent call = OnTime lent call × (Altered lent → ⊥)
+
+-- the numbers by which each kind of call is refused for its arguments, and what each is for
 abbrev pub WrongFor : ℕ → Event (List ℤ) → Type 0
-WrongFor number (sample window) = weighing window ≡ refused number
+WrongFor number (sample window) = RefusedFor number window
 WrongFor number (limit current) = (number ≡ 7) × (80000 < current)
 WrongFor number (measure current) = (number ≡ 7) × (200000 < current)
-WrongFor number (fault kind) = (number ≡ 8) × ((kind < 3) ⊎ (5 < kind))
+WrongFor number (fault kind) = (number ≡ 8) × Outside 3 5 kind
 WrongFor number clear = ⊥
 WrongFor number tick = ⊥
 
-pub record RefusalsAre (lent : Lent) (call : Call) : Type 0 where
-  pub three : (lentRefusal lent (heard call) ≡ 3) ↔ (largestTime < call .time)
-  pub two : (lentRefusal lent (heard call) ≡ 2) ↔ ((call .time ≤ largestTime) × (call .time < lent .kept .last))
-  pub one : (lentRefusal lent (heard call) ≡ 1) ↔ (OnTime lent call × (altered lent ≡ true))
-  pub later : (number : ℕ) → 4 ≤ number
-      → (lentRefusal lent (heard call) ≡ number) ↔ (OnTime lent call × (altered lent ≡ false) × WrongFor number (call .event))
+-- the number that a call gets for a lent controller: each for its condition and for nothing else, and 0 if none of the conditions holds
+pub record RefusedBy (lent : Lent) (call : Call) (number : ℕ) : Type 0 where
+  pub three : (number ≡ 3) ↔ (largestTime < call .time)
+  pub two : (number ≡ 2) ↔ ((call .time ≤ largestTime) × (call .time < lent .kept .last))
+  pub one : (number ≡ 1) ↔ (OnTime lent call × Altered lent)
+  pub later : (n : ℕ) → 4 ≤ n → (number ≡ n) ↔ (Judged lent call × WrongFor n (call .event))
+  pub none : (number ≡ 0) ↔ (Judged lent call × ((n : ℕ) → WrongFor n (call .event) → ⊥))
+  pub no-other : number ≤ 8
 
--- outside of a range
-abbrev pub Outside : ℕ → ℕ → ℕ → Type 0
-Outside from to n = (n < from) ⊎ (to < n)
+-- what begin is refused for by 1: a rated current, or a pause other than 0, that is out of its range
+abbrev pub SettingsOut : Begin → Type 0
+SettingsOut begin = Outside 6000 80000 (begin .rated) ⊎ ((0 < begin .pause) × Outside 1000 60000 (begin .pause))
 
--- begin: 1 for a rated current, or a pause other than 0, that is out of its range
-pub record BeginRefusalsAre (begin : Begin) : Type 0 where
-  pub three : (beginRefusal begin ≡ 3) ↔ (largestTime < begin .time)
-  pub one : (beginRefusal begin ≡ 1)
-      ↔ ((begin .time ≤ largestTime) × (Outside 6000 80000 (begin .rated) ⊎ ((0 < begin .pause) × Outside 1000 60000 (begin .pause))))
-  pub no-other : (beginRefusal begin ≡ 0) ⊎ ((beginRefusal begin ≡ 1) ⊎ (beginRefusal begin ≡ 3))
+-- the number that begin gets
+pub record BeginRefusedBy (begin : Begin) (number : ℕ) : Type 0 where
+  pub three : (number ≡ 3) ↔ (largestTime < begin .time)
+  pub one : (number ≡ 1) ↔ ((begin .time ≤ largestTime) × SettingsOut begin)
+  pub none : (number ≡ 0) ↔ ((begin .time ≤ largestTime) × (SettingsOut begin → ⊥))
+  pub no-other : (number ≡ 0) ⊎ ((number ≡ 1) ⊎ (number ≡ 3))

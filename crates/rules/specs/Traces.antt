@@ -5,7 +5,7 @@ use Prim.Native.Nat.{ℕ, zero, suc}
 use lib.ListN.{length, getD, take}
 use Rattle.rules.specs.Accepted.{closesAt, causeAt}
 use Rattle.rules.specs.Answer.{begun, replyTo, lentAfter}
-use Rattle.rules.specs.Begin.{Begin, pauseFor}
+use Rattle.rules.specs.Begin.{Begin}
 use Rattle.rules.specs.Calls.{Call, Heard, tick, heard, isSample}
 use Rattle.rules.specs.Claim.{Trace}
 use Rattle.rules.specs.Lent.{Lent}
@@ -38,7 +38,7 @@ module _ (begin : Begin) (calls : List Call) where
         verdict = λ k. verdict (before k) (callAt k .event);
         closes = λ k. closesAt (before k) (callAt k);
         cause = λ k. causeAt (before k) (callAt k);
-        pause = pauseFor (begin .pause);
+        pause = λ k. before k .settings .pause;
       }
 
   -- the controller lent to call k

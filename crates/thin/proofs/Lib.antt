@@ -1,6 +1,4 @@
--- One lemma for each shape of a thin call's parameters.
+-- One lemma for every exported call, whatever its parameters.
 pub mod Lent
-pub mod Time
-pub mod Number
-pub mod Settings
-pub mod Window
+pub mod Parameters
+pub mod LentCall

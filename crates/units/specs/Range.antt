@@ -1,6 +1,7 @@
 -- Ranges of levels and of duties.
 use mathlib.Core.Bool.{Bool, _&&_, cond}
-use Prim.Native.Nat.{ℕ}
+use mathlib.Core.Logic.{_⊎_}
+use Prim.Native.Nat.{ℕ, _<_}
 use lib.Dec.{leb}
 use lib.IntN.{ℤ}
 use lib.Signed.{leZ, ltZ}
@@ -16,6 +17,10 @@ strictlyBetween from to level = ltZ from level && ltZ level to
 -- a number from one end to the other, both included
 unfoldable pub fromTo : ℕ → ℕ → ℕ → Bool
 fromTo from to n = leb from n && leb n to
+
+-- a number outside of such a range
+abbrev pub Outside : ℕ → ℕ → ℕ → Type 0
+Outside from to n = (n < from) ⊎ (to < n)
 
 -- the higher and the lower of two levels
 unfoldable pub higher : ℤ → ℤ → ℤ

@@ -2,20 +2,22 @@
 use mathlib.Core.Path.{_≡_, refl, sym, _∙_, ap}
 use mathlib.Core.Bool.{Bool, true, false, cond}
 use mathlib.Core.List.{List, [], _∷_, List·Memᴰ, List·Memᴰ·not-nil}
-use mathlib.Core.Logic.{_↔_}
+use mathlib.Core.Logic.{_↔_, inl, inr}
 use native.Mathlib.Omega.{arith}
 use Prim.Native.Nat.{ℕ}
 use lib.Dec.{eqb}
 use lib.IntN.{ℤ}
+use lib.ListN.{length}
 use lib.Signed.{leZ}
 use Rattle.units.specs.Range.{higher, lower}
+use Rattle.units.proofs.FromTo.{outside-exactly}
 use Rattle.units.proofs.LevelOrder.{both-ways, le-itself, le-through, higher-bounds, lower-bounds, higher-one, lower-one}
 use Rattle.window.specs.Support.{supported}
 use Rattle.window.specs.Weighing.{Weighs, levels, refused, lengthAllowed, allAllowed, select, extreme, greatest, least, levelsOf, supportedLevels, weighing}
 use Rattle.window.specs.Answers.{asWeighs}
 use Rattle.window.specs.declared.Weighed.{Weighed}
 use Rattle.window.specs.declared.Weighed.the-variants.{Levels, WrongLength, OutOfRange, Unsupported}
-use Rattle.window.specs.Laws.{LevelsOf, OneOutOfRange, NoneSupported}
+use Rattle.window.specs.Laws.{LevelsOf, OneOutOfRange, NoneSupported, RefusedFor}
 use Rattle.window.proofs.Extremes.{selected, is-selected, extreme-member, extreme-bounds}
 use Rattle.window.proofs.Refusals.{all-right, one-wrong, wrong-length, out-of-range, weighed}
 
@@ -23,6 +25,10 @@ use Rattle.window.proofs.Refusals.{all-right, one-wrong, wrong-length, 
 tagOf : Weighs → ℕ
 tagOf (levels high low) = 0
 tagOf (refused number) = number
+
+isRefused : Weighs → Bool
+isRefused (levels high low) = false
+isRefused (refused number) = true
 
 module _ (window : List ℤ) where
   -- a nonempty list of supported readings gives the levels
@@ -156,6 +162,22 @@ module _ (window : List ℤ) where
       back n (five o w) = both-ways (sym (n .readings-right (o .reading) (o .in-window)) ∙ o .out-of-range)
       back n (six m w) = w
       back n (found h l are w) = both-ways (sym (are .high-supported) ∙ n .none h (are .high-reading))
+
+  -- a window is refused by 4, 5 and 6, each for its reason, and by no other number
+  pub refused-exactly : (number : ℕ) → (weighing window ≡ refused number) ↔ RefusedFor number window
+  unfolding tagOf isRefused lengthAllowed
+  refused-exactly number = (λ e. go e way, λ reason. back reason)
+    where
+      go : weighing window ≡ refused number → Way → RefusedFor number window
+      go e (four l w) = inl (sym (ap tagOf e) ∙ ap tagOf w, outside-exactly 256 1024 (length window) .0 l)
+      go e (five o w) = inr (inl (sym (ap tagOf e) ∙ ap tagOf w, o))
+      go e (six n w) = inr (inr (sym (ap tagOf e) ∙ ap tagOf w, n))
+      go e (found h l are w) = both-ways (sym (ap isRefused e) ∙ ap isRefused w)
+
+      back : RefusedFor number window → weighing window ≡ refused number
+      back (inl (is, out)) = wrong-length window (outside-exactly 256 1024 (length window) .1 out) ∙ ap refused (sym is)
+      back (inr (inl (is, o))) = five-exactly .1 o ∙ ap refused (sym is)
+      back (inr (inr (is, n))) = six-exactly .1 n ∙ ap refused (sym is)
 
 -- an answer's meaning fixes the answer: the map has an inverse
 weighedFrom : Weighs → Weighed

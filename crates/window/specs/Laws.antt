@@ -3,8 +3,12 @@
 use mathlib.Core.Path.{_≡_}
 use mathlib.Core.Bool.{true, false}
 use mathlib.Core.List.{List, List·Memᴰ}
+use mathlib.Core.Logic.{_⊎_}
+use Prim.Native.Nat.{ℕ}
+use lib.ListN.{length}
 use lib.IntN.{ℤ}
 use lib.Signed.{leZ}
+use Rattle.units.specs.Range.{Outside}
 use Rattle.window.specs.Support.{supported}
 use Rattle.window.specs.Weighing.{lengthAllowed, readingAllowed}
 
@@ -31,3 +35,9 @@ pub record NoneSupported (window : List ℤ) : Type 0 where
   pub length-right : lengthAllowed window ≡ true
   pub readings-right : (reading : ℤ) → List·Memᴰ reading window → readingAllowed reading ≡ true
   pub none : (reading : ℤ) → List·Memᴰ reading window → supported window reading ≡ false
+
+-- the numbers by which a window is refused, and what each is for
+abbrev pub RefusedFor : ℕ → List ℤ → Type 0
+RefusedFor number window =
+    ((number ≡ 4) × Outside 256 1024 (length window))
+    ⊎ (((number ≡ 5) × OneOutOfRange window) ⊎ ((number ≡ 6) × NoneSupported window))

@@ -1,22 +1,20 @@
 -- What crate controller proves of the call by value, taken to the lent controller.
-use contract.Running.{givenOf, tables, tablesOf}
-use denote.Triple.Spec.{tripleOf}
-use denote.Triple.Table.{entered, cited}
+use mathlib.Core.List.{[], _∷_}
+use mir.Syntax.{w32, w64}
+use contract.Running.{givenOf}
 use Rattle.rules.specs.Calls.{limit}
 use Rattle.controller.specs.Answers.{Answers}
-use Rattle.controller.proofs.limit as by-value
 use Rattle.controller.proofs.limit.Symbol as symbol
 use Rattle.controller.proofs.limit.Met as met
-use Rattle.thin.proofs.Number.{meets}
+use Rattle.thin.proofs.Parameters.{number}
+use Rattle.thin.proofs.LentCall.{lent-call-meets}
 use Rattle.post.proofs.Crossing.{lent, told, answers}
-use Rattle.post.proofs.chuldariin_limit as thin
 use Rattle.post.proofs.chuldariin_limit.Key as key
 use Rattle.post.proofs.chuldariin_limit.Statement as stated
 use Rattle.post.proofs.chuldariin_limit.Code as code
 
 pub chuldariin-limit-spec : {M : Type 1} → stated.statement M
-unfolding code.routine tablesOf
+unfolding code.routine
 chuldariin-limit-spec 𝓤 H 𝓜 𝓖 𝓡 =
-    entered 𝓤 H (tripleOf 𝓤 H (𝓖 .A) thin.signature (thin.spec 𝓤 H (𝓖 .A) (𝓜 .mem) (𝓡 .run))) (tables 𝓤 H 𝓜 𝓡 code.env .C) (tables 𝓤 H 𝓜 𝓡 code.env .Λ) key.name code.function (code.unfolded 𝓤 H 𝓜 𝓡)
-    (meets lent told answers (λ c time current. Answers (record { time = time; event = limit current }) c) 𝓤 H (𝓖 .A) (givenOf 𝓤 H 𝓜 𝓖) (tablesOf 𝓤 H 𝓜 (tables 𝓤 H 𝓜 𝓡 code.env)) symbol.name
-    (cited 𝓤 H (tripleOf 𝓤 H (𝓖 .A) by-value.signature (by-value.spec 𝓤 H (𝓖 .A) (𝓜 .mem) (𝓡 .run))) 𝓜 𝓡 code.env symbol.name symbol.routine code.calls-controller·limit (met.met 𝓤 H 𝓜 𝓖 𝓡)))
+    lent-call-meets lent told answers 0 (number w64 ∷ number w32 ∷ []) (λ c a. Answers (record { time = a .0; event = limit (a .1 .0) }) c) 𝓤 H (𝓖 .A) 𝓜 𝓡 (givenOf 𝓤 H 𝓜 𝓖)
+    code.env symbol.name symbol.routine code.calls-controller·limit key.name (code.unfolded 𝓤 H 𝓜 𝓡) (met.met 𝓤 H 𝓜 𝓖 𝓡)

@@ -1,4 +1,4 @@
--- The window keeps its length.
+-- A reading is replaced or left, so the window keeps its length.
 use mathlib.Core.Path.{_≡_, refl, _∙_, ap}
 use mathlib.Core.Logic.{⊎-elim}
 use Prim.Native.Nat.{_≤_, _-_}
@@ -7,35 +7,18 @@ use lib.ListN.{length, length-set}
 use Rattle.figures.proofs.readings.put.Statement.{statement}
 use Rattle.figures.proofs.readings.put.Tie as tie
 
-abbrev Inv-loop : tie.InvT-loop
-Inv-loop window₀ count level i₀ window i = (i ≤ length window) × (length window ≡ length window₀)
+abbrev As-long : tie.InvT-loop
+As-long window₀ count level i₀ window i = (length window ≡ length window₀) × (i ≤ length window)
 
-abbrev μ-loop : tie.MeasureT-loop
-μ-loop window₀ count level i₀ window i = length window₀ - i
+abbrev left : tie.MeasureT-loop
+left window₀ count level i₀ window i = length window₀ - i
 
-loop-holds : tie.Need-loop-holds Inv-loop μ-loop
-loop-holds c = (omega arith, refl)
-
-mul-level : tie.Need-mul-level Inv-loop μ-loop
-mul-level c = omega (arith, c .before .before .before .good .0 .1)
-
-slice-set-from-level : tie.Need-slice-set-from-level Inv-loop μ-loop
-slice-set-from-level c = omega arith
-
-add-i : tie.Need-add-i Inv-loop μ-loop
-add-i c = omega (arith, c .before .before .before .good .0 .0)
-
-loop-less : tie.Need-loop-less Inv-loop μ-loop
-loop-less c = omega arith
-
-same : (c : tie.Joined1 Inv-loop μ-loop) → length (c .if1 .window) ≡ length (c .before .before .loop .window)
-same c = ⊎-elim (λ w. ap length (w .1) ∙ simp length-set) (λ w. ap length (w .1)) (c .if1 .came)
-
-loop-again : tie.Need-loop-again Inv-loop μ-loop
-loop-again c = omega (arith, same c)
-
-same-length : tie.Need-same-length Inv-loop μ-loop
-same-length c = c .before .loop .inv .1
+-- one turn
+turn : (c : tie.Joined1 As-long left) → length (c .if1 .window) ≡ length (c .before .before .loop .window)
+turn c = ⊎-elim (λ replaced. ap length (replaced .1) ∙ simp length-set) (λ same. ap length (same .1)) (c .if1 .came)
 
 pub put-spec : {M : Type 1} → statement M
-put-spec = tie.close (tie.spec Inv-loop μ-loop loop-holds mul-level slice-set-from-level add-i loop-less loop-again same-length (λ c. tt))
+put-spec =
+    tie.close
+    (tie.spec As-long left (λ c. (refl, omega arith)) (λ c. omega (arith, c .before .before .before .good .0 .1)) (λ c. omega arith) (λ c. omega (arith, c .before .before .before .good .0 .0)) (λ c. omega arith) (λ c. omega (arith, turn c))
+    (λ c. c .before .loop .inv .0) (λ c. tt))

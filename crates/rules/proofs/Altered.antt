@@ -1,0 +1,89 @@
+-- Refusal 1 comes exactly for the conditions that the table names.
+use mathlib.Core.Path.{_≡_, refl}
+use mathlib.Core.Bool.{Bool, true, false, _&&_, _||_, not}
+use mathlib.Core.Logic.{_↔_}
+use Prim.Native.Nat.{ℕ}
+use lib.Dec.{eqb, leb}
+use borrow.Author.Tests.{eqb-false, ne-eqb, leb-false, lt-leb, not-false}
+use Rattle.units.specs.Wave.{driven}
+use Rattle.units.proofs.FromTo.{outside-exactly}
+use Rattle.units.proofs.LevelOrder.{and-parts}
+use Rattle.rules.specs.Begin.{ratedAllowed, pauseAllowed}
+use Rattle.rules.specs.Lent.{Lent, mostClosings, waveAllowed, storedAllowed, timesAllowed, inRange, altered}
+use Rattle.rules.specs.Refusals.{limitAllowed}
+use Rattle.rules.specs.RefusalsAre.{WaveOut, StoredAbove, Altered, wave-out, limit-out, rated-out, pause-out, sound-above, opening-above, overrun-above, stop-above, closings-out}
+use Rattle.rules.specs.State.{State, Moment}
+use Rattle.rules.specs.Step3Wave.{steadyLow, steadyHigh}
+use Rattle.rules.proofs.Booleans.{clash}
+use Rattle.rules.proofs.Ranges.{InRange, range-parts}
+
+-- each test, and what it means that it fails
+wave-exactly : (wave : ℕ) → (waveAllowed wave ≡ false) ↔ WaveOut wave
+unfolding waveAllowed driven
+wave-exactly wave = (λ e. to (eqb wave steadyLow) (driven wave) (eqb wave steadyHigh) refl refl refl e, λ out. from out)
+  where
+    to : (l d h : Bool) → eqb wave steadyLow ≡ l → driven wave ≡ d → eqb wave steadyHigh ≡ h → l || (d || h) ≡ false → WaveOut wave
+    to true d h p q r e = clash refl e
+    to false true h p q r e = clash refl e
+    to false false true p q r e = clash refl e
+    to false false false p q r e = (eqb-false wave steadyLow p, outside-exactly 100 960 wave .0 q, eqb-false wave steadyHigh r)
+
+    from : WaveOut wave → waveAllowed wave ≡ false
+    from (not-low, out, not-high) = rw (ne-eqb wave steadyLow not-low, outside-exactly 100 960 wave .1 out, ne-eqb wave steadyHigh not-high)
+
+stored-exactly : (last : ℕ) (stored : Moment) → (storedAllowed last stored ≡ false) ↔ StoredAbove last stored
+unfolding storedAllowed
+stored-exactly last stored = (λ e. to (stored .set) refl e, λ above. rw (above .0, lt-leb (stored .time) last (above .1)))
+  where
+    to : (b : Bool) → stored .set ≡ b → not b || leb (stored .time) last ≡ false → StoredAbove last stored
+    to true p e = (p, leb-false (stored .time) last e)
+    to false p e = clash refl e
+
+module _ (lent : Lent) where
+  abbrev s : State
+  s = lent .kept
+
+  to-altered : altered lent ≡ true → Altered lent
+  unfolding altered inRange timesAllowed limitAllowed ratedAllowed pauseAllowed
+  to-altered e =
+      go (waveAllowed (s .wave)) (leb (s .limit) 80000) (ratedAllowed (s .settings .rated)) (pauseAllowed (s .settings .pause))
+      (storedAllowed (s .last) (s .sound)) (storedAllowed (s .last) (s .opening)) (storedAllowed (s .last) (s .overrun)) (storedAllowed (s .last) (s .stop))
+      (leb (lent .closings) mostClosings) refl refl refl refl refl refl refl refl refl e
+    where
+      go : (w l r p a b c d n : Bool) → waveAllowed (s .wave) ≡ w → leb (s .limit) 80000 ≡ l → ratedAllowed (s .settings .rated) ≡ r
+          → pauseAllowed (s .settings .pause) ≡ p → storedAllowed (s .last) (s .sound) ≡ a → storedAllowed (s .last) (s .opening) ≡ b
+          → storedAllowed (s .last) (s .overrun) ≡ c → storedAllowed (s .last) (s .stop) ≡ d → leb (lent .closings) mostClosings ≡ n
+          → not ((w && (l && (r && (p && (a && (b && (c && d))))))) && n) ≡ true → Altered lent
+      go false l r p a b c d n e1 e2 e3 e4 e5 e6 e7 e8 e9 e = wave-out (wave-exactly (s .wave) .0 e1)
+      go true false r p a b c d n e1 e2 e3 e4 e5 e6 e7 e8 e9 e = limit-out (leb-false (s .limit) 80000 e2)
+      go true true false p a b c d n e1 e2 e3 e4 e5 e6 e7 e8 e9 e = rated-out (outside-exactly 6000 80000 (s .settings .rated) .0 e3)
+      go true true true false a b c d n e1 e2 e3 e4 e5 e6 e7 e8 e9 e = pause-out (outside-exactly 1000 60000 (s .settings .pause) .0 e4)
+      go true true true true false b c d n e1 e2 e3 e4 e5 e6 e7 e8 e9 e = sound-above (stored-exactly (s .last) (s .sound) .0 e5)
+      go true true true true true false c d n e1 e2 e3 e4 e5 e6 e7 e8 e9 e = opening-above (stored-exactly (s .last) (s .opening) .0 e6)
+      go true true true true true true false d n e1 e2 e3 e4 e5 e6 e7 e8 e9 e = overrun-above (stored-exactly (s .last) (s .overrun) .0 e7)
+      go true true true true true true true false n e1 e2 e3 e4 e5 e6 e7 e8 e9 e = stop-above (stored-exactly (s .last) (s .stop) .0 e8)
+      go true true true true true true true true false e1 e2 e3 e4 e5 e6 e7 e8 e9 e = closings-out (leb-false (lent .closings) mostClosings e9)
+      go true true true true true true true true true e1 e2 e3 e4 e5 e6 e7 e8 e9 e = clash e refl
+
+  -- with every test passed none of the conditions holds
+  not-altered : InRange s → leb (lent .closings) mostClosings ≡ true → Altered lent → ⊥
+  unfolding limitAllowed ratedAllowed pauseAllowed
+  not-altered range few (wave-out out) = clash (range .wave) (wave-exactly (s .wave) .1 out)
+  not-altered range few (limit-out out) = clash (range .limit) (lt-leb (s .limit) 80000 out)
+  not-altered range few (rated-out out) = clash (range .rated) (outside-exactly 6000 80000 (s .settings .rated) .1 out)
+  not-altered range few (pause-out out) = clash (range .pause) (outside-exactly 1000 60000 (s .settings .pause) .1 out)
+  not-altered range few (sound-above above) = clash (range .sound) (stored-exactly (s .last) (s .sound) .1 above)
+  not-altered range few (opening-above above) = clash (range .opening) (stored-exactly (s .last) (s .opening) .1 above)
+  not-altered range few (overrun-above above) = clash (range .overrun) (stored-exactly (s .last) (s .overrun) .1 above)
+  not-altered range few (stop-above above) = clash (range .stop) (stored-exactly (s .last) (s .stop) .1 above)
+  not-altered range few (closings-out out) = clash few (lt-leb (lent .closings) mostClosings out)
+
+  pub altered-exactly : (altered lent ≡ true) ↔ Altered lent
+  unfolding altered
+  altered-exactly = (to-altered, λ known. go (altered lent) refl known)
+    where
+      go : (b : Bool) → altered lent ≡ b → Altered lent → b ≡ true
+      go true e known = refl
+      go false e known =
+          let parts = and-parts (inRange s) (leb (lent .closings) mostClosings) (not-false _ e) in
+          absurd (not-altered (range-parts s (parts .0)) (parts .1) known)
