@@ -23,7 +23,7 @@ reading-refused-by tenths = go (decLt 1000 tenths)
     go : Dec (1000 < tenths) → ReadingRefusedBy tenths (toldReading (readingOf tenths) .refusal)
     go (yes above) =
         let is : toldReading (readingOf tenths) .refusal ≡ 9 = ap (λ reads. toldReading reads .refusal) (nine-exactly tenths .1 above) in
-        record { nine = (λ e. above, λ h. is); none = (λ e. absurd (omega arith), λ h. absurd (omega arith)) }
+        record { nine = (λ e. omega arith, λ h. is); none = (λ e. absurd (omega arith), λ h. absurd (omega arith)) }
     go (no within) =
         let is : toldReading (readingOf tenths) .refusal ≡ 0 = refusal-of (readingOf tenths) refl (omega arith) in
         record { nine = (λ e. absurd (omega arith), λ h. absurd (omega arith)); none = (λ e. omega arith, λ h. is) }
@@ -34,7 +34,7 @@ duty-refused-by available = go (decLt available 6000)
     go : Dec (available < 6000) → DutyRefusedBy available (toldDuty (dutyFor available) .refusal)
     go (yes low) =
         let is : toldDuty (dutyFor available) .refusal ≡ 10 = ap (λ sends. toldDuty sends .refusal) (too-low available low) in
-        record { ten = (λ e. low, λ h. is); none = (λ e. absurd (omega arith), λ h. absurd (omega arith)) }
+        record { ten = (λ e. omega arith, λ h. is); none = (λ e. absurd (omega arith), λ h. absurd (omega arith)) }
     go (no high) =
         let is : toldDuty (dutyFor available) .refusal ≡ 0 = ap (λ sends. toldDuty sends .refusal) (greatest available (omega arith) .1) in
         record { ten = (λ e. absurd (omega arith), λ h. absurd (omega arith)); none = (λ e. omega arith, λ h. is) }
