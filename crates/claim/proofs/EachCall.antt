@@ -1,11 +1,10 @@
 -- Demand 1 of one call: the table's numbers, and what a refused call hands back.
 use mathlib.Core.Path.{_≡_, sym, _∙_, ap, subst}
 use Prim.Native.Nat.{ℕ}
-use lib.Dec.{eqb}
 use Rattle.rules.specs.Answer.{alone}
 use Rattle.rules.specs.Begin.{Begin, beginRefusal}
 use Rattle.rules.specs.Calls.{Call, heard}
-use Rattle.rules.specs.Lent.{Lent, lentRefusal}
+use Rattle.rules.specs.Lent.{lentRefusal}
 use Rattle.rules.specs.RefusalsAre.{RefusedBy, BeginRefusedBy}
 use Rattle.rules.specs.Reply.{shown}
 use Rattle.rules.proofs.BeginRefusals.{begin-refused-by}

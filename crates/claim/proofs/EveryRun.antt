@@ -30,7 +30,7 @@ use Rattle.controller.specs.declared.Controller.{Controller}
 use Rattle.controller.specs.Answers.{handedBack}
 use Rattle.controller.specs.View.{view}
 use Rattle.claim.specs.Run.{Run}
-use Rattle.claim.specs.EveryRun.{told, EveryRun}
+use Rattle.claim.specs.EveryRun.{told, lentTold, EveryRun}
 use Rattle.claim.proofs.Begun.{begin-accepted, begun-is}
 use Rattle.claim.proofs.Lending.{each-answered, final-is, reply-is, replies-are as all-replies}
 
@@ -61,6 +61,12 @@ module _ (begin : Begin) (calls : List Call) (begins : Reply) (replies : List Re
   final-lent : view final ≡ lentAt begin calls (length calls)
   final-lent = final-told ∙ ap (λ l. lentAfter (begun begin) l) (sym (take-length calls))
 
+  lent-told : (k : ℕ) → k ≤ length calls → lentAt begin calls k ≡ lentTold begin calls begins replies k
+  lent-told k within =
+      let list = every-list begin calls accepted in
+      let counted = list .carried k within ∙ sym (ap (λ r. r .closings) (replies-are k within)) in
+      λ i. record { kept = list .kept k within i; closings = counted i }
+
   pub every-run : EveryRun begin calls begins replies final
   every-run =
       let list = every-list begin calls accepted in
@@ -75,15 +81,16 @@ module _ (begin : Begin) (calls : List Call) (begins : Reply) (replies : List Re
             ap (λ l. l .closings) final-lent ∙ list .carried (length calls) (omega arith) ∙ sym (ap (λ r. r .closings) whole);
         all-kept =
             ap (λ l. l .kept) final-lent ∙ list .kept (length calls) (omega arith) ∙ ap (λ l. replay begin l) (take-length calls);
-        not-altered = ap altered final-lent ∙ list .not-altered (length calls) (omega arith);
+        not-altered = λ known. clash (altered-exactly (view final) .1 known) (ap altered final-lent ∙ list .not-altered (length calls) (omega arith));
         replies-are = replies-are;
         demand3 =
             demand3-replied begin calls accepted (λ k. told begins replies k .closed) (λ k. told begins replies k .closings)
             (λ k within. ap (λ r. r .closed) (replies-are k within))
             (λ k within. ap (λ r. r .closings) (replies-are k within));
         refused-by = λ k below.
-            subst (RefusedBy (lentAt begin calls k) (getD calls k noCall)) (sym (ap (λ r. r .refusal) (replies-are (suc k) below)))
-            (refused-by (lentAt begin calls k) (getD calls k noCall));
+            subst (λ lent. RefusedBy lent (getD calls k noCall) (told begins replies (suc k) .refusal)) (lent-told k (omega arith))
+            (subst (RefusedBy (lentAt begin calls k) (getD calls k noCall)) (sym (ap (λ r. r .refusal) (replies-are (suc k) below)))
+            (refused-by (lentAt begin calls k) (getD calls k noCall)));
         never-1 = λ k below one.
             let known = refused-by (lentAt begin calls k) (getD calls k noCall) .one .0 (sym (ap (λ r. r .refusal) (replies-are (suc k) below)) ∙ one) in
             clash (altered-exactly (lentAt begin calls k) .1 (known .1)) (list .not-altered k (omega arith));

@@ -1,4 +1,4 @@
--- The proof that every run of the calls keeps demand 3, and that there are runs.
+-- The proofs of what holds of every call and of every run of the calls, and that there are runs.
 pub mod Begun
 pub mod EachCall
 pub mod Lending

@@ -23,7 +23,7 @@ pub record EachCall (call : Call) (before : Controller) (reply : Reply) (after :
   pub unchanged : IsRefused reply → after ≡ before
   pub rest-as-lent : IsRefused reply → asReply reply ≡ shown (reply .refusal) (view before)
 
--- and begin: a refused one is unchanged too, and its number comes alone
+-- and begin: refused, it leaves the lent controller unchanged, and its number comes alone; accepted, the controller is the fresh one
 pub record EachBegin (begin : Begin) (before : Controller) (reply : Reply) (after : Controller) : Type 0 where
   pub refused-by : BeginRefusedBy begin (reply .refusal)
   pub unchanged : IsRefused reply → after ≡ before

@@ -1,7 +1,7 @@
 -- What holds of every run of the calls: one proposition over begin's values, the calls, the replies and the final controller (proved in
 -- proofs/EveryRun.antt). It has demand 3, and what demands 1 and 2 say of a whole list.
 use mathlib.Core.Path.{_≡_}
-use mathlib.Core.Bool.{true, false}
+use mathlib.Core.Bool.{true}
 use mathlib.Core.List.{List, _∷_}
 use Prim.Native.Nat.{ℕ, suc, _≤_, _<_}
 use lib.ListN.{length, getD}
@@ -12,12 +12,12 @@ use Rattle.rules.specs.Calls.{Call}
 use Rattle.rules.specs.Claim.{Trace, leastPause, Demand3}
 use Rattle.rules.specs.Every20.{ClosedIsSound}
 use Rattle.rules.specs.EveryList.{Reached}
-use Rattle.rules.specs.Lent.{altered}
+use Rattle.rules.specs.Lent.{Lent}
 use Rattle.rules.specs.Refusals.{refusal}
-use Rattle.rules.specs.RefusalsAre.{RefusedBy}
+use Rattle.rules.specs.RefusalsAre.{Altered, RefusedBy}
 use Rattle.rules.specs.Replay.{replay}
 use Rattle.rules.specs.Step3Wave.{available}
-use Rattle.rules.specs.Traces.{noCall, before, callAt, traceOf, lentAt, replyBefore}
+use Rattle.rules.specs.Traces.{noCall, before, callAt, traceOf, replyBefore}
 use Rattle.leaves.specs.declared.replies.Reply.{Reply}
 use Rattle.leaves.specs.Views.{asReply}
 use Rattle.controller.specs.declared.Controller.{Controller}
@@ -31,6 +31,10 @@ told begun replies k = getD (begun ∷ replies) k begun
 abbrev pub traceTold : Begin → List Call → Reply → List Reply → Trace
 traceTold begin calls begun replies = traceOf begin calls (λ k. told begun replies k .closed) (λ k. told begun replies k .closings)
 
+-- the controller lent to call k: what the replay keeps, with the closings that were last told
+abbrev pub lentTold : Begin → List Call → Reply → List Reply → ℕ → Lent
+lentTold begin calls begun replies k = record { kept = before begin calls k; closings = told begun replies k .closings }
+
 pub record EveryRun (begin : Begin) (calls : List Call) (begun : Reply) (replies : List Reply) (final : Controller) : Type 0 where
   -- a reply for each call
   pub each-answered : length replies ≡ length calls
@@ -38,7 +42,7 @@ pub record EveryRun (begin : Begin) (calls : List Call) (begun : Reply) (replies
   pub refusals : (k : ℕ) → k < length calls → told begun replies (suc k) .refusal ≡ refusal (before begin calls k) (callAt begin calls k)
   pub waves : (k : ℕ) → k ≤ length calls → told begun replies k .wave ≡ before begin calls k .wave
   -- demand 1: each number comes for its condition and for nothing else, and 1 never
-  pub refused-by : (k : ℕ) → k < length calls → RefusedBy (lentAt begin calls k) (getD calls k noCall) (told begun replies (suc k) .refusal)
+  pub refused-by : (k : ℕ) → k < length calls → RefusedBy (lentTold begin calls begun replies k) (getD calls k noCall) (told begun replies (suc k) .refusal)
   pub never-1 : (k : ℕ) → k < length calls → _≡_ {A = ℕ} (told begun replies (suc k) .refusal) 1 → ⊥
   -- demand 2: a driven wave is the greatest allowed duty for the lesser of rated and limit
   pub duties : (k : ℕ) → k ≤ length calls → driven (told begun replies k .wave) ≡ true
@@ -48,7 +52,7 @@ pub record EveryRun (begin : Begin) (calls : List Call) (begun : Reply) (replies
   pub closings-held : final .closings ≡ told begun replies (length calls) .closings
   pub all-kept : kept final ≡ replay begin calls
   -- and refusal 1 does not name it
-  pub not-altered : altered (view final) ≡ false
+  pub not-altered : Altered (view final) → ⊥
   -- every reply, whole, follows from begin's values and the calls
   pub replies-are : (k : ℕ) → k ≤ length calls → asReply (told begun replies k) ≡ replyBefore begin calls k
   -- closed exactly when; two proven samples; opening and pause between; the count; the span: rules/specs/Claim.antt, on what was told

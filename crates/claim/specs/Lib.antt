@@ -1,4 +1,4 @@
--- A run of the controller's calls, and what holds of every run.
+-- A run of the controller's calls, and what holds of every call and of every run.
 pub mod Run
 pub mod EachCall
 pub mod EveryRun

@@ -1,1 +1,1 @@
-// Demand 3 about the calls of the controller: definitions and theorems, no code.
+// What holds of every call of the controller and of every list of calls: definitions and theorems, no code.

@@ -1,4 +1,4 @@
--- The structs that cross to the host, as crate thin's lemmas take them: the controller, the reply, and the answer of a call by value.
+-- The structs that cross to the host, as crate thin's lemma takes them: the controller, the reply, and the answer of a call by value.
 use Rattle.thin.proofs.Lent.{Plain, Pairs}
 use Rattle.controller.proofs.Controller as controller
 use Rattle.controller.proofs.Controller.Laws as controller-laws

@@ -1,6 +1,5 @@
--- What holds of every run of the exported calls: it is a run of the calls by value, with the same replies and the same final controller.
+-- What holds of every exported call, and of every run of them: it is a run of the calls by value, with the same replies and the same final controller.
 use mathlib.Core.Path.{_≡_, refl, subst}
-use Prim.Native.Nat.{ℕ}
 use mathlib.Core.List.{List, [], _∷_}
 use denote.Ref.{RefT, now, at-last}
 use Rattle.rules.specs.Begin.{Begin, beginRefusal}

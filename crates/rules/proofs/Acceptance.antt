@@ -6,7 +6,6 @@ use native.Mathlib.Omega.{arith}
 use lib.Dec.{eqb, leb, ltb}
 use borrow.Author.Tests.{eqb-true, ltb-false, leb-true}
 use Rattle.units.specs.Range.{fromTo}
-use Rattle.units.proofs.LevelOrder.{and-parts}
 use Rattle.rules.specs.Begin.{Begin, largestTime, ratedAllowed, pauseAllowed, pauseFor, beginRefusal}
 use Rattle.rules.specs.Calls.{Heard}
 use Rattle.rules.specs.Lent.{Lent, mostClosings, inRange, altered, lentRefusal}

@@ -16,7 +16,7 @@ use Rattle.rules.specs.Every20.{LastAccepted, Consecutive, SoundWithin10
 use Rattle.rules.specs.Lent.{storedAllowed}
 use Rattle.rules.specs.Pairs.{verdict}
 use Rattle.rules.specs.Replay.{isAccepted, replay}
-use Rattle.rules.specs.State.{State, Moment, setTo}
+use Rattle.rules.specs.State.{State, setTo}
 use Rattle.rules.specs.Step1Event.{soundBy}
 use Rattle.rules.specs.Traces.{before, callAt, traceOf}
 use Rattle.rules.proofs.Booleans.{clash}

@@ -35,7 +35,7 @@ settings-are begin calls k = settings-kept (fresh begin) (take k calls)
 -- the least of pauses that are all the same
 least-is : (t : Trace) (n pause : ℕ) → ((k : ℕ) → t .pause k ≡ pause) → leastPause t n ≡ pause
 least-is t zero pause same = same 0
-least-is t (suc n) pause same = rw (least-is t n pause same, same (suc n)) (omega arith)
+least-is t (suc n) pause same = rw (least-is t n pause same, same n) (omega arith)
 
 pub every-list : (begin : Begin) (calls : List Call) → beginRefusal begin ≡ 0 → EveryList begin calls
 unfolding fresh

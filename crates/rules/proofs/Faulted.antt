@@ -1,6 +1,6 @@
 -- A call that unsettles leaves a fault latched.
 use mathlib.Core.Path.{_≡_, refl, sym}
-use mathlib.Core.Bool.{Bool, true, false, _||_, cond}
+use mathlib.Core.Bool.{Bool, true, false, _||_}
 use Prim.Native.Nat.{ℕ}
 use native.Mathlib.Omega.{arith}
 use lib.Dec.{eqb, leb}
@@ -17,7 +17,7 @@ use Rattle.rules.specs.State.{State, Faults, anyFault}
 use Rattle.rules.specs.Step1Event.{withKind, faultsBy}
 use Rattle.rules.specs.Step2Latches.{overCurrent, unsettles, latched}
 use Rattle.rules.proofs.Acceptance.{arguments-right}
-use Rattle.rules.proofs.Booleans.{clash}
+use Rattle.rules.proofs.Booleans.{clash, not-refused}
 
 -- a fault is latched if one of the tests comes out true
 any-of : (p q r w t a b c : Bool) → a || (b || c) ≡ true → p || (q || ((r || a) || ((w || b) || (t || c)))) ≡ true
@@ -69,11 +69,7 @@ unfolding argumentRefusal faultsBy withKind anyFault latched overCurrent
 kind-latches now pair s (fault kind) f right is same =
     rw same
     (any-of (f .diode || bothDiodeBad pair) (f .overcurrent || overCurrent now s) (f .residual) (f .welded) (f .temperature) _ _ _
-    (kind-is kind (go (kindAllowed kind) refl right)))
-  where
-    go : (b : Bool) → kindAllowed kind ≡ b → _≡_ {A = ℕ} (cond b 0 8) 0 → b ≡ true
-    go true p e = refl
-    go false p e = absurd (omega arith)
+    (kind-is kind (not-refused (kindAllowed kind) 8 (omega arith) right)))
 kind-latches now pair s (sample window) f right is same = clash refl (sym is)
 kind-latches now pair s (limit given) f right is same = clash refl (sym is)
 kind-latches now pair s (measure line) f right is same = clash refl (sym is)

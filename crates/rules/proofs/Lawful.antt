@@ -52,7 +52,7 @@ module _ (t : Trace) (kept : Kept) where
     pub starts-at-none : t .carried 0 ≡ 0
     pub starts-alone : kept .previous 0 .kept ≡ false
     pub each : (k : ℕ) → k < t .length → Law k
-    pub pause-least : (k : ℕ) → k ≤ t .length → 1000 ≤ t .pause k
+    pub pause-least : (k : ℕ) → k < t .length → 1000 ≤ t .pause k
 
   -- the four outcomes of a call
   pub data Outcome (k : ℕ) : Type 0 where

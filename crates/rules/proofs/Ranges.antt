@@ -20,6 +20,7 @@ use Rattle.rules.specs.State.{State, Moment, empty, setTo, startedBy}
 use Rattle.rules.specs.Step1Event.{isOver, announced, soundBy, limitBy, overrunAt, overrunBy}
 use Rattle.rules.specs.Step3Wave.{steadyHigh, waveFor, overrunUnder, stopUnder}
 use Rattle.rules.proofs.Acceptance.{arguments-right, on-time}
+use Rattle.rules.proofs.Booleans.{not-refused}
 use Rattle.rules.proofs.Waves.{wave-allowed}
 
 -- the ranges, one by one
@@ -105,11 +106,7 @@ module _ (s : State) (call : Heard) where
   limit-right : (event : Event Weighs) → argumentRefusal event ≡ 0 → limitAllowed (s .limit) ≡ true → limitAllowed (limitBy event (s .limit)) ≡ true
   unfolding limitBy argumentRefusal
   limit-right (sample window) e p = p
-  limit-right (limit given) e p = go (limitAllowed given) refl e
-    where
-      go : (b : Bool) → limitAllowed given ≡ b → _≡_ {A = ℕ} (cond b 0 7) 0 → b ≡ true
-      go true q f = refl
-      go false q f = absurd (omega arith)
+  limit-right (limit given) e p = not-refused (limitAllowed given) 7 (omega arith) e
   limit-right (measure line) e p = p
   limit-right (fault kind) e p = p
   limit-right clear e p = p

@@ -7,7 +7,7 @@ use Prim.Native.Nat.{ℕ, _≤_, _<_}
 use native.Mathlib.Omega.{arith}
 use lib.Dec.{leb, ltb}
 use lib.IntN.{ℤ}
-use borrow.Author.Tests.{ltb-true, ltb-false, leb-true, leb-false}
+use borrow.Author.Tests.{ltb-true, ltb-false, leb-false, lt-leb}
 use Rattle.units.specs.Range.{fromTo, Outside}
 use Rattle.units.proofs.FromTo.{outside-exactly}
 use Rattle.window.specs.Weighing.{Weighs, levels, refused, weighing}
@@ -48,29 +48,13 @@ way lent call = go (ltb largestTime (call .time)) (ltb (call .time) (lent .kept 
         by true r on-time = changed (is false false true p q r) on-time (altered-exactly lent .0 r)
         by false r on-time = judged (is false false false p q r) (on-time, λ known. clash (altered-exactly lent .1 known) r)
 
--- a number above the most that is allowed
-above-most : (most current number n : ℕ) → 4 ≤ n → (cond (leb current most) 0 number ≡ n) ↔ ((n ≡ number) × (most < current))
-above-most most current number n big = (λ e. to (leb current most) refl e, λ e. from (leb current most) refl e)
-  where
-    to : (b : Bool) → leb current most ≡ b → cond b 0 number ≡ n → (n ≡ number) × (most < current)
-    to true p e = absurd (omega arith)
-    to false p e = (sym e, leb-false current most p)
+-- a test that refuses by a number where it fails, and what it means that it fails
+refused-if : (test : Bool) (number n : ℕ) (Wrong : Type 0) → (test ≡ false) ↔ Wrong → 4 ≤ n → (cond test 0 number ≡ n) ↔ ((n ≡ number) × Wrong)
+refused-if true number n Wrong means big = (λ e. absurd (omega arith), λ e. clash refl (means .1 (e .1)))
+refused-if false number n Wrong means big = (λ e. (sym e, means .0 refl), λ e. sym (e .0))
 
-    from : (b : Bool) → leb current most ≡ b → (n ≡ number) × (most < current) → cond b 0 number ≡ n
-    from true p e = let low = leb-true current most p in let high = e .1 in absurd (omega arith)
-    from false p e = sym (e .0)
-
-no-such-kind : (kind n : ℕ) → 4 ≤ n → (cond (kindAllowed kind) 0 8 ≡ n) ↔ ((n ≡ 8) × Outside 3 5 kind)
-unfolding kindAllowed
-no-such-kind kind n big = (λ e. to (fromTo 3 5 kind) refl e, λ e. from (fromTo 3 5 kind) refl e)
-  where
-    to : (b : Bool) → fromTo 3 5 kind ≡ b → cond b 0 8 ≡ n → (n ≡ 8) × Outside 3 5 kind
-    to true p e = absurd (omega arith)
-    to false p e = (sym e, outside-exactly 3 5 kind .0 p)
-
-    from : (b : Bool) → fromTo 3 5 kind ≡ b → (n ≡ 8) × Outside 3 5 kind → cond b 0 8 ≡ n
-    from true p e = clash p (outside-exactly 3 5 kind .1 (e .1))
-    from false p e = sym (e .0)
+above-exactly : (current most : ℕ) → (leb current most ≡ false) ↔ (most < current)
+above-exactly current most = (leb-false current most, lt-leb current most)
 
 refused-with : (w : Weighs) (n : ℕ) → 4 ≤ n → (windowRefusal w ≡ n) ↔ (w ≡ refused n)
 refused-with (levels high low) n big = (λ e. absurd (omega arith), λ e. ap windowRefusal e)
@@ -78,14 +62,14 @@ refused-with (refused number) n big = (λ e. ap refused e, λ e. ap windowRefusa
 
 -- the arguments' refusal, number by number
 arguments : (event : Event (List ℤ)) (n : ℕ) → 4 ≤ n → (argumentRefusal (weighed event) ≡ n) ↔ WrongFor n event
-unfolding weighed argumentRefusal limitAllowed measureAllowed
+unfolding weighed argumentRefusal limitAllowed measureAllowed kindAllowed
 arguments (sample window) n big = (
   λ e. refused-exactly window n .0 (refused-with (weighing window) n big .0 e),
   λ wrong. refused-with (weighing window) n big .1 (refused-exactly window n .1 wrong),
 )
-arguments (limit current) n big = above-most 80000 current 7 n big
-arguments (measure current) n big = above-most 200000 current 7 n big
-arguments (fault kind) n big = no-such-kind kind n big
+arguments (limit current) n big = refused-if (leb current 80000) 7 n (80000 < current) (above-exactly current 80000) big
+arguments (measure current) n big = refused-if (leb current 200000) 7 n (200000 < current) (above-exactly current 200000) big
+arguments (fault kind) n big = refused-if (fromTo 3 5 kind) 8 n (Outside 3 5 kind) (outside-exactly 3 5 kind) big
 arguments clear n big = (λ e. absurd (omega arith), λ e. absurd e)
 arguments tick n big = (λ e. absurd (omega arith), λ e. absurd e)
 

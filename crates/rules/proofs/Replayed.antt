@@ -1,11 +1,11 @@
 -- The replay has the laws of one call, so demand 3 holds of every list.
 use mathlib.Core.Path.{_≡_, refl, sym, _∙_, ap}
 use mathlib.Core.Bool.{Bool, true, false, _&&_, _||_, not, cond}
-use mathlib.Core.List.{List, [], _∷_}
+use mathlib.Core.List.{List}
 use Prim.Native.Nat.{ℕ, suc, _≤_, _<_}
 use native.Mathlib.Omega.{arith}
 use lib.ListN.{length, take}
-use Rattle.rules.specs.Accepted.{unsettlesAt, causeAt, opensAt, closesAt, accept}
+use Rattle.rules.specs.Accepted.{unsettlesAt, causeAt, opensAt, closesAt}
 use Rattle.rules.specs.Begin.{Begin, beginRefusal, fresh}
 use Rattle.rules.specs.Calls.{Call, Heard, inTurn}
 use Rattle.rules.specs.Claim.{Demand3}

@@ -76,7 +76,7 @@ module _ (t : Trace) (kept : Kept) (laws : Lawful t kept) where
 
   -- no pause in force at a call is below `least`
   abbrev AtLeast : ℕ → Type 0
-  AtLeast least = (k : ℕ) → k ≤ t .length → least ≤ t .pause k
+  AtLeast least = (k : ℕ) → k < t .length → least ≤ t .pause k
 
   pub spans-in : (least : ℕ) → AtLeast least → (n : ℕ) → n ≤ t .length → 1 ≤ closingsIn t n → SpansIn least n
   spans-in least pauses zero within some = absurd (not-suc-le-zero some)
@@ -127,7 +127,7 @@ module _ (t : Trace) (kept : Kept) (laws : Lawful t kept) where
             none-after = λ k after below closing. absurd (omega arith);
             spaced = λ d more.
                 let is : d ≡ suc c = omega (arith, rw e at more) in
-                rw is (omega (arith, known .spaced c count, paused t kept laws (known .last) (gap .0) n here (gap .1), ordered, pauses n (omega arith)));
+                rw is (omega (arith, known .spaced c count, paused t kept laws (known .last) (gap .0) n here (gap .1), ordered, pauses n within));
           }
         where
           here : Closing t n
@@ -159,16 +159,14 @@ module _ (t : Trace) (kept : Kept) (laws : Lawful t kept) where
           omega (arith, known .spaced c e, late)
 
   -- the least pause is not above any of them
-  pub least-of : (n k : ℕ) → k ≤ n → leastPause t n ≤ t .pause k
-  least-of zero k within =
-      let is : k ≡ 0 = omega arith in
-      rw is (omega arith)
-  least-of (suc n) k within = go (decLt k (suc n)) (λ less. least-of n k less)
+  pub least-of : (n k : ℕ) → k < n → leastPause t n ≤ t .pause k
+  least-of zero k below = absurd (not-suc-le-zero below)
+  least-of (suc n) k below = go (decLt k n) (λ less. least-of n k less)
     where
-      go : Dec (k < suc n) → (k ≤ n → leastPause t n ≤ t .pause k) → leastPause t (suc n) ≤ t .pause k
-      go (yes less) earlier = omega (arith, earlier (omega arith))
+      go : Dec (k < n) → (k < n → leastPause t n ≤ t .pause k) → leastPause t (suc n) ≤ t .pause k
+      go (yes less) earlier = omega (arith, earlier less)
       go (no more) earlier =
-          let is : k ≡ suc n = omega arith in
+          let is : k ≡ n = omega arith in
           rw is (omega arith)
 
   pub spans : 1 ≤ closingsIn t (t .length) → Spans t

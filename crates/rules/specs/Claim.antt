@@ -74,10 +74,10 @@ module _ (t : Trace) where
   closingsIn zero = 0
   closingsIn (suc k) = cond (not (t .told k) && t .told (suc k)) (suc (closingsIn k)) (closingsIn k)
 
-  -- the least pause in force in the first n calls and after them
+  -- the least pause in force at begin and at the first n calls
   abbrev pub leastPause : ℕ → ℕ
   leastPause zero = t .pause 0
-  leastPause (suc k) = min (leastPause k) (t .pause (suc k))
+  leastPause (suc k) = min (leastPause k) (t .pause k)
 
   -- the span: the time of the last closing less that of the first
   pub record Spans : Type 0 where

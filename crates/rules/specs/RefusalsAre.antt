@@ -51,7 +51,8 @@ WrongFor number (fault kind) = (number ≡ 8) × Outside 3 5 kind
 WrongFor number clear = ⊥
 WrongFor number tick = ⊥
 
--- the number that a call gets for a lent controller: each for its condition and for nothing else, and 0 if none of the conditions holds
+-- the number that a call gets for a lent controller: each for its condition and for nothing else, and 0 if none of the conditions holds.
+-- From 4 on they are those of the arguments: `WrongFor` has 4, 5 and 6 for a window, 7 and 8.
 pub record RefusedBy (lent : Lent) (call : Call) (number : ℕ) : Type 0 where
   pub three : (number ≡ 3) ↔ (largestTime < call .time)
   pub two : (number ≡ 2) ↔ ((call .time ≤ largestTime) × (call .time < lent .kept .last))

@@ -1,4 +1,4 @@
--- A lent controller, its reply, and the answer that holds both: what the proofs of the thin calls know of the three structs.
+-- A lent controller, its reply, and the answer that holds both: what the proof of the lent calls knows of the three structs.
 -- Each is any struct of plain data. The answer has the controller and the reply as its two fields and no other.
 -- Assumes nothing.
 use mathlib.Core.Path.{_≡_}

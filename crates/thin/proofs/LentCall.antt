@@ -197,7 +197,7 @@ module _ (C R : Plain) (P : Pairs C R) (n : ℕ) (ps : List (Parameter n)) where
               returns ! (look ! 13 refl) $ forget ! 6 refl $ forget ! 8 refl $ forget ! 11 refl $ forget ! 13 refl $ move ! (13 ∷ 14 ∷ 11 ∷ 12 ∷ 5 ∷ 10 ∷ 8 ∷ 9 ∷ 6 ∷ 7 ∷ []) $
               free1 ! $ free1 ! $ use1 W (‵ (rooms ps bs)) (all-forget 𝓤 H A W ps bs given) $ free-all W ps bs $ free1 ! $ free1 ! $ free0 ! $ ends r (holds-reply C R P r _ held) holds
 
-          -- before that: the controller and the reply are arguments (lent-side n) out of the answer
+          -- before that: the controller and the reply are taken out of the answer
           stores-it : Sq W (raw Tokens ∷ Open (Frame the-copy the-answered (Room (spelled R) l₀))) (runs K Λ E storing (atRet E Post))
           stores-it =
               assigns ! (of-opd ! (load ! (at-local W (beyond _ 0 ps bs) (fld ! refl (stop !))) (look-in ! 9 (sub ! 0 refl (whole !))))) (from ! (hop ! (look ! 12 refl) (stop !))) (store-raw ! 2 refl (fits W C (P .controller r) (holds-controller C R P r _ held))) $

@@ -74,7 +74,7 @@ abbrev shared : RattleType → ℕ → Ty
 shared T j = sliceTy (tyRef (named j) imm (pointee (T .written)))
 
 -- what a struct of plain data owns can be had twice
-pub plain-copy : (S : Plain) {M : Type 1} (𝓤 : URA M) (H : Heap 𝓤) (A : Atoms 𝓤) → Given 𝓤 H A → Copy 𝓤 H A (the-row S)
+plain-copy : (S : Plain) {M : Type 1} (𝓤 : URA M) (H : Heap 𝓤) (A : Atoms 𝓤) → Given 𝓤 H A → Copy 𝓤 H A (the-row S)
 plain-copy S 𝓤 H A W = record { twice = λ x vs. qed W (‵ (the-row S .own x vs) ∷ []) ∵ peeks ! (the-row S) (Is (the-row S)) (shows 𝓤 H A (the-row S)) x vs (λ is. owned ! (the-row S) (Is (the-row S)) (LL.makes (S .type) (S .plain) 𝓤 H A) x vs is $ done !) }
 
 module _ {n : ℕ} where
@@ -208,7 +208,7 @@ module _ {n : ℕ} where
   cells [] bs a = ftrue
   cells (p ∷ ps) bs a = fsep (fat fullShare (p .lent .ty) (bs .0) zero (p .value (a .0))) (cells ps (bs .1) (a .1))
 
-  -- where they stand-first among the locals
+  -- where they stand among the locals
   abbrev pub StandFrom : List (Ty × ℕ) → ℕ → (ps : List (Parameter n)) → Blocks ps → Type 0
   StandFrom E i [] bs = Unit {0}
   StandFrom E i (p ∷ ps) bs = (getD E i no-local ≡ (p .lent .ty, bs .0)) × StandFrom E (suc i) ps (bs .1)

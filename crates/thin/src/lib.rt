@@ -1,1 +1,1 @@
-// What is proved once of every thin call (proofs/). There is no code here.
+// What is proved once of every call that is lent a controller (proofs/). There is no code here.

@@ -118,50 +118,24 @@ module _ (window : List ℤ) where
           let same-low : l ≡ low = cc in
           rw (← same-high, ← same-low) are
 
-  -- refusal 4 comes for the length, and for nothing else
-  pub four-exactly : (weighing window ≡ refused 4) ↔ (lengthAllowed window ≡ false)
-  unfolding tagOf
-  four-exactly = (λ e. go e way, wrong-length window)
+  -- after the length comes a reading out of range, and then the support
+  five-by : OneOutOfRange window → weighing window ≡ refused 5
+  five-by o = go way
     where
-      go : weighing window ≡ refused 4 → Way → lengthAllowed window ≡ false
-      go e (four l w) = l
-      go e (five o w) = differ e w (λ c. omega arith)
-      go e (six n w) = differ e w (λ c. omega arith)
-      go e (found h l are w) = differ e w (λ c. omega arith)
+      go : Way → weighing window ≡ refused 5
+      go (four l w) = both-ways (sym (o .length-right) ∙ l)
+      go (five p w) = w
+      go (six n w) = both-ways (sym (n .readings-right (o .reading) (o .in-window)) ∙ o .out-of-range)
+      go (found h l are w) = both-ways (sym (are .readings-right (o .reading) (o .in-window)) ∙ o .out-of-range)
 
-  -- refusal 5 comes for a reading out of range, after 4
-  pub five-exactly : (weighing window ≡ refused 5) ↔ OneOutOfRange window
-  unfolding tagOf
-  five-exactly = (λ e. go e way, λ o. back o way)
+  six-by : NoneSupported window → weighing window ≡ refused 6
+  six-by n = go way
     where
-      go : weighing window ≡ refused 5 → Way → OneOutOfRange window
-      go e (four l w) = differ e w (λ c. omega arith)
-      go e (five o w) = o
-      go e (six n w) = differ e w (λ c. omega arith)
-      go e (found h l are w) = differ e w (λ c. omega arith)
-
-      back : OneOutOfRange window → Way → weighing window ≡ refused 5
-      back o (four l w) = both-ways (sym (o .length-right) ∙ l)
-      back o (five p w) = w
-      back o (six n w) = both-ways (sym (n .readings-right (o .reading) (o .in-window)) ∙ o .out-of-range)
-      back o (found h l are w) = both-ways (sym (are .readings-right (o .reading) (o .in-window)) ∙ o .out-of-range)
-
-  -- refusal 6 comes where nothing has support, once length and readings are right
-  pub six-exactly : (weighing window ≡ refused 6) ↔ NoneSupported window
-  unfolding tagOf
-  six-exactly = (λ e. go e way, λ n. back n way)
-    where
-      go : weighing window ≡ refused 6 → Way → NoneSupported window
-      go e (four l w) = differ e w (λ c. omega arith)
-      go e (five o w) = differ e w (λ c. omega arith)
-      go e (six n w) = n
-      go e (found h l are w) = differ e w (λ c. omega arith)
-
-      back : NoneSupported window → Way → weighing window ≡ refused 6
-      back n (four l w) = both-ways (sym (n .length-right) ∙ l)
-      back n (five o w) = both-ways (sym (n .readings-right (o .reading) (o .in-window)) ∙ o .out-of-range)
-      back n (six m w) = w
-      back n (found h l are w) = both-ways (sym (are .high-supported) ∙ n .none h (are .high-reading))
+      go : Way → weighing window ≡ refused 6
+      go (four l w) = both-ways (sym (n .length-right) ∙ l)
+      go (five o w) = both-ways (sym (n .readings-right (o .reading) (o .in-window)) ∙ o .out-of-range)
+      go (six m w) = w
+      go (found h l are w) = both-ways (sym (are .high-supported) ∙ n .none h (are .high-reading))
 
   -- a window is refused by 4, 5 and 6, each for its reason, and by no other number
   pub refused-exactly : (number : ℕ) → (weighing window ≡ refused number) ↔ RefusedFor number window
@@ -176,8 +150,8 @@ module _ (window : List ℤ) where
 
       back : RefusedFor number window → weighing window ≡ refused number
       back (inl (is, out)) = wrong-length window (outside-exactly 256 1024 (length window) .1 out) ∙ ap refused (sym is)
-      back (inr (inl (is, o))) = five-exactly .1 o ∙ ap refused (sym is)
-      back (inr (inr (is, n))) = six-exactly .1 n ∙ ap refused (sym is)
+      back (inr (inl (is, o))) = five-by o ∙ ap refused (sym is)
+      back (inr (inr (is, n))) = six-by n ∙ ap refused (sym is)
 
 -- an answer's meaning fixes the answer: the map has an inverse
 weighedFrom : Weighs → Weighed
