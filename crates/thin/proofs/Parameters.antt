@@ -74,7 +74,7 @@ abbrev shared : RattleType → ℕ → Ty
 shared T j = sliceTy (tyRef (named j) imm (pointee (T .written)))
 
 -- what a struct of plain data owns can be had twice
-plain-copy : (S : Plain) {M : Type 1} (𝓤 : URA M) (H : Heap 𝓤) (A : Atoms 𝓤) → Given 𝓤 H A → Copy 𝓤 H A (the-row S)
+pub plain-copy : (S : Plain) {M : Type 1} (𝓤 : URA M) (H : Heap 𝓤) (A : Atoms 𝓤) → Given 𝓤 H A → Copy 𝓤 H A (the-row S)
 plain-copy S 𝓤 H A W = record { twice = λ x vs. qed W (‵ (the-row S .own x vs) ∷ []) ∵ peeks ! (the-row S) (Is (the-row S)) (shows 𝓤 H A (the-row S)) x vs (λ is. owned ! (the-row S) (Is (the-row S)) (LL.makes (S .type) (S .plain) 𝓤 H A) x vs is $ done !) }
 
 module _ {n : ℕ} where
