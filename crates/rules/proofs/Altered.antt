@@ -2,7 +2,7 @@
 use mathlib.Core.Path.{_≡_, refl}
 use mathlib.Core.Bool.{Bool, true, false, _&&_, _||_, not}
 use mathlib.Core.Logic.{_↔_}
-use Prim.Native.Nat.{ℕ}
+use Prim.Native.Nat.{ℕ, _<_}
 use lib.Dec.{eqb, leb}
 use borrow.Author.Tests.{eqb-false, ne-eqb, leb-false, lt-leb, not-false}
 use Rattle.units.specs.Wave.{driven}
@@ -31,6 +31,10 @@ wave-exactly wave = (λ e. to (eqb wave steadyLow) (driven wave) (eqb wave stead
     from : WaveOut wave → waveAllowed wave ≡ false
     from (not-low, out, not-high) = rw (ne-eqb wave steadyLow not-low, outside-exactly 100 960 wave .1 out, ne-eqb wave steadyHigh not-high)
 
+limit-exactly : (limit : ℕ) → (limitAllowed limit ≡ false) ↔ (80000 < limit)
+unfolding limitAllowed
+limit-exactly limit = (leb-false limit 80000, lt-leb limit 80000)
+
 stored-exactly : (last : ℕ) (stored : Moment) → (storedAllowed last stored ≡ false) ↔ StoredAbove last stored
 unfolding storedAllowed
 stored-exactly last stored = (λ e. to (stored .set) refl e, λ above. rw (above .0, lt-leb (stored .time) last (above .1)))
@@ -44,18 +48,18 @@ module _ (lent : Lent) where
   s = lent .kept
 
   to-altered : altered lent ≡ true → Altered lent
-  unfolding altered inRange timesAllowed limitAllowed ratedAllowed pauseAllowed
+  unfolding altered inRange timesAllowed ratedAllowed pauseAllowed
   to-altered e =
-      go (waveAllowed (s .wave)) (leb (s .limit) 80000) (ratedAllowed (s .settings .rated)) (pauseAllowed (s .settings .pause))
+      go (waveAllowed (s .wave)) (limitAllowed (s .limit)) (ratedAllowed (s .settings .rated)) (pauseAllowed (s .settings .pause))
       (storedAllowed (s .last) (s .sound)) (storedAllowed (s .last) (s .opening)) (storedAllowed (s .last) (s .overrun)) (storedAllowed (s .last) (s .stop))
       (leb (lent .closings) mostClosings) refl refl refl refl refl refl refl refl refl e
     where
-      go : (w l r p a b c d n : Bool) → waveAllowed (s .wave) ≡ w → leb (s .limit) 80000 ≡ l → ratedAllowed (s .settings .rated) ≡ r
+      go : (w l r p a b c d n : Bool) → waveAllowed (s .wave) ≡ w → limitAllowed (s .limit) ≡ l → ratedAllowed (s .settings .rated) ≡ r
           → pauseAllowed (s .settings .pause) ≡ p → storedAllowed (s .last) (s .sound) ≡ a → storedAllowed (s .last) (s .opening) ≡ b
           → storedAllowed (s .last) (s .overrun) ≡ c → storedAllowed (s .last) (s .stop) ≡ d → leb (lent .closings) mostClosings ≡ n
           → not ((w && (l && (r && (p && (a && (b && (c && d))))))) && n) ≡ true → Altered lent
       go false l r p a b c d n e1 e2 e3 e4 e5 e6 e7 e8 e9 e = wave-out (wave-exactly (s .wave) .0 e1)
-      go true false r p a b c d n e1 e2 e3 e4 e5 e6 e7 e8 e9 e = limit-out (leb-false (s .limit) 80000 e2)
+      go true false r p a b c d n e1 e2 e3 e4 e5 e6 e7 e8 e9 e = limit-out (limit-exactly (s .limit) .0 e2)
       go true true false p a b c d n e1 e2 e3 e4 e5 e6 e7 e8 e9 e = rated-out (outside-exactly 6000 80000 (s .settings .rated) .0 e3)
       go true true true false a b c d n e1 e2 e3 e4 e5 e6 e7 e8 e9 e = pause-out (outside-exactly 1000 60000 (s .settings .pause) .0 e4)
       go true true true true false b c d n e1 e2 e3 e4 e5 e6 e7 e8 e9 e = sound-above (stored-exactly (s .last) (s .sound) .0 e5)
@@ -67,9 +71,9 @@ module _ (lent : Lent) where
 
   -- with every test passed none of the conditions holds
   not-altered : InRange s → leb (lent .closings) mostClosings ≡ true → Altered lent → ⊥
-  unfolding limitAllowed ratedAllowed pauseAllowed
+  unfolding ratedAllowed pauseAllowed
   not-altered range few (wave-out out) = clash (range .wave) (wave-exactly (s .wave) .1 out)
-  not-altered range few (limit-out out) = clash (range .limit) (lt-leb (s .limit) 80000 out)
+  not-altered range few (limit-out out) = clash (range .limit) (limit-exactly (s .limit) .1 out)
   not-altered range few (rated-out out) = clash (range .rated) (outside-exactly 6000 80000 (s .settings .rated) .1 out)
   not-altered range few (pause-out out) = clash (range .pause) (outside-exactly 1000 60000 (s .settings .pause) .1 out)
   not-altered range few (sound-above above) = clash (range .sound) (stored-exactly (s .last) (s .sound) .1 above)

@@ -38,19 +38,19 @@ module _ (s : State) (call : Heard) where
   -- what is remembered of the samples: nothing where the call forgets, else its own sample or the one before it
   pub previous-is : accept s call .previous
       ≡ previousBy (unsettlesAt s call || opensAt s call) (isSample (call .event)) (verdict s (call .event)) (s .previous)
-  previous-is = go (unsettlesAt s call) (opensAt s call) (isSample (call .event)) (record { kept = true; verdict = verdict s (call .event) }) (s .previous)
+  previous-is = go (opensAt s call) (unsettlesAt s call) (isSample (call .event)) refl refl refl
     where
-      go : (unsettled opened sampled : Bool) (this old : Previous)
-          → cond (sampled && not (unsettled || opened)) this (cond opened forgotten (cond unsettled forgotten old))
-          ≡ cond (unsettled || opened) forgotten (cond sampled this old)
-      go true true true this old = refl
-      go true true false this old = refl
-      go true false true this old = refl
-      go true false false this old = refl
-      go false true true this old = refl
-      go false true false this old = refl
-      go false false true this old = refl
-      go false false false this old = refl
+      go : (opened unsettled sampled : Bool) → opensAt s call ≡ opened → unsettlesAt s call ≡ unsettled → isSample (call .event) ≡ sampled
+          → accept s call .previous
+          ≡ previousBy (unsettlesAt s call || opensAt s call) (isSample (call .event)) (verdict s (call .event)) (s .previous)
+      go true true true p q r = rw (p, q, r)
+      go true true false p q r = rw (p, q, r)
+      go true false true p q r = rw (p, q, r)
+      go true false false p q r = rw (p, q, r)
+      go false true true p q r = rw (p, q, r)
+      go false true false p q r = rw (p, q, r)
+      go false false true p q r = rw (p, q, r)
+      go false false false p q r = rw (p, q, r)
 
   -- an opening forgets
   pub opening-forgets : s .closed ≡ true → causeAt s call ≡ true → unsettlesAt s call || opensAt s call ≡ true

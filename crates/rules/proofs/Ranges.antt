@@ -38,7 +38,7 @@ pub pause-least : (s : State) → InRange s → 1000 ≤ s .settings .pause
 unfolding pauseAllowed fromTo
 pause-least s known =
     let pause = s .settings .pause in
-    leb-true 1000 pause (and-parts (leb 1000 pause) (leb pause 60000) (known .pause) .0)
+    leb-true 1000 pause (and-parts (leb 1000 pause) _ (known .pause) .0)
 
 pub range-parts : (s : State) → inRange s ≡ true → InRange s
 unfolding inRange timesAllowed

@@ -15,7 +15,8 @@ use Rattle.rules.proofs.Turns.{turn-next}
 module _ (s : State) (call : Heard) where
   pub step-by : (a : Bool) → isAccepted s call ≡ a → step s call ≡ cond a (accept s call) s
   unfolding step
-  step-by a e = ap (λ b. cond b (accept s call) s) e
+  step-by true into = rw into
+  step-by false out = rw out
 
   -- what a call does to one thing that is kept, from what it does if accepted
   pub step-to : {A : Type 0} (f : State → A) (x : A) → f (accept s call) ≡ x → f (step s call) ≡ cond (isAccepted s call) x (f s)

@@ -59,10 +59,12 @@ module _ (s : State) where
   unfolding waveFor
   wave-is = go (anyFault (s .faults)) (heldHigh s) refl refl
     where
-      go : (f h : Bool) → anyFault (s .faults) ≡ f → heldHigh s ≡ h → WaveIs (cond f steadyLow (cond h steadyHigh (sent (dutyFor (available s)))))
-      go true h p q = low refl p
-      go false true p q = high refl p
-      go false false p q = square (sent-greatest (offers-exactly .0 q .enough)) p (offers-exactly .0 q)
+      go : (f h : Bool) → anyFault (s .faults) ≡ f → heldHigh s ≡ h → WaveIs (waveFor s)
+      go true h p q = low (rw p) p
+      go false true p q = high (rw (p, q)) p
+      go false false p q =
+          let offer = offers-exactly .0 q in
+          square (rw (p, q) (sent-greatest (offer .enough))) p offer
 
   pub wave-allowed : waveAllowed (waveFor s) ≡ true
   unfolding waveAllowed driven fromTo
