@@ -11,7 +11,7 @@ use Rattle.pilot.specs.Bands.{noBand}
 use Rattle.rules.specs.Accepted.{pairAt, unsettlesAt, causeAt, opensAt, closesAt, afterOpening, accept}
 use Rattle.rules.specs.Calls.{Heard, isSample}
 use Rattle.rules.specs.Pairs.{Pair, verdict, paired, sameBand, inOneBand, bothProven}
-use Rattle.rules.specs.State.{State, Moment, Previous, setTo, forgotten}
+use Rattle.rules.specs.State.{State, Moment, setTo}
 use Rattle.rules.specs.Step4Opening.{opens}
 use Rattle.rules.specs.Step5Closing.{rested, closes}
 use Rattle.rules.proofs.Booleans.{clash}
