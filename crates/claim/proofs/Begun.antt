@@ -8,10 +8,10 @@ use Rattle.rules.specs.Answer.{Answer, begun, alone, answerToBegin}
 use Rattle.rules.specs.Begin.{Begin, beginRefusal}
 use Rattle.rules.specs.Lent.{Lent}
 use Rattle.rules.specs.Reply.{shown}
-use Rattle.leaves.specs.declared.replies.Reply.{Reply}
-use Rattle.leaves.specs.Views.{asReply}
+use Rattle.parts.specs.declared.replies.Reply.{Reply}
+use Rattle.parts.specs.Views.{asReply}
 use Rattle.controller.specs.declared.Controller.{Controller}
-use Rattle.controller.specs.Answers.{handedBack, Begins}
+use Rattle.calls.specs.Answers.{handedBack, Begins}
 use Rattle.controller.specs.View.{view}
 use Rattle.controller.proofs.Fixes.{view-fixes}
 

@@ -3,35 +3,35 @@ use mathlib.Core.Path.{_≡_, sym, _∙_, ap, subst}
 use Prim.Native.Nat.{ℕ}
 use Rattle.rules.specs.Answer.{alone}
 use Rattle.rules.specs.Begin.{Begin, beginRefusal}
-use Rattle.rules.specs.Calls.{Call, heard}
+use Rattle.rules.specs.Calls.{Call, evaluatedCall}
 use Rattle.rules.specs.Lent.{lentRefusal}
 use Rattle.rules.specs.RefusalsAre.{RefusedBy, BeginRefusedBy}
 use Rattle.rules.specs.Reply.{shown}
 use Rattle.rules.proofs.BeginRefusals.{begin-refused-by}
 use Rattle.rules.proofs.Lending.{refused-next}
 use Rattle.rules.proofs.RefusalsAre.{refused-by}
-use Rattle.leaves.specs.declared.replies.Reply.{Reply}
+use Rattle.parts.specs.declared.replies.Reply.{Reply}
 use Rattle.controller.specs.declared.Controller.{Controller}
-use Rattle.controller.specs.Answers.{handedBack, Answers, Begins}
+use Rattle.calls.specs.Answers.{handedBack, Answers, Begins}
 use Rattle.controller.specs.View.{view}
 use Rattle.controller.proofs.Fixes.{view-fixes}
 use Rattle.claim.specs.EachCall.{IsRefused, EachCall, EachBegin}
 use Rattle.claim.proofs.Begun.{begin-number, begun-is, refused-begin}
 
 module _ (call : Call) (before : Controller) (reply : Reply) (after : Controller) (answers : Answers call before reply after) where
-  number-is : _≡_ {A = ℕ} (reply .refusal) (lentRefusal (view before) (heard call))
+  number-is : _≡_ {A = ℕ} (reply .refusal) (lentRefusal (view before) (evaluatedCall call))
   number-is = ap (λ a. a .reply .refusal) answers
 
-  not-next : IsRefused reply → lentRefusal (view before) (heard call) ≡ 0 → ⊥
+  not-next : IsRefused reply → lentRefusal (view before) (evaluatedCall call) ≡ 0 → ⊥
   not-next refused none = refused (number-is ∙ none)
 
   pub each-call : EachCall call before reply after
   each-call =
       record {
         refused-by = subst (RefusedBy (view before) call) (sym number-is) (refused-by (view before) call);
-        unchanged = λ refused. view-fixes after before (ap (λ a. a .lent) answers ∙ refused-next (view before) (heard call) (not-next refused));
+        unchanged = λ refused. view-fixes after before (ap (λ a. a .lent) answers ∙ refused-next (view before) (evaluatedCall call) (not-next refused));
         rest-as-lent = λ refused.
-            ap (λ a. a .reply) answers ∙ ap (λ lent. shown (lentRefusal (view before) (heard call)) lent) (refused-next (view before) (heard call) (not-next refused))
+            ap (λ a. a .reply) answers ∙ ap (λ lent. shown (lentRefusal (view before) (evaluatedCall call)) lent) (refused-next (view before) (evaluatedCall call) (not-next refused))
             ∙ ap (λ n. shown n (view before)) (sym number-is);
       }
 

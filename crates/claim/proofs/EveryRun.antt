@@ -8,14 +8,13 @@ use lib.ListN.{length, getD, take}
 use lib.Seq.{take-length}
 use Rattle.units.specs.Wave.{driven}
 use Rattle.duty.specs.DutyFor.{IsGreatest}
-use Rattle.rules.specs.Answer.{begun, replyTo, lentAfter}
+use Rattle.rules.specs.Answer.{begun, replyTo, lentAfter, repliesTo}
 use Rattle.rules.specs.Begin.{Begin, beginRefusal}
 use Rattle.rules.specs.Calls.{Call}
 use Rattle.rules.specs.Lent.{altered}
 use Rattle.rules.specs.RefusalsAre.{RefusedBy}
 use Rattle.rules.specs.Replay.{replay}
 use Rattle.rules.specs.Reply.{shown}
-use Rattle.rules.specs.Sequences.{repliesTo}
 use Rattle.rules.specs.Step3Wave.{available}
 use Rattle.rules.specs.Traces.{noCall, before, callAt, lentAt, replyBefore}
 use Rattle.rules.proofs.Altered.{altered-exactly}
@@ -24,13 +23,13 @@ use Rattle.rules.proofs.Every20.{closed-is-sound}
 use Rattle.rules.proofs.EveryList.{every-list}
 use Rattle.rules.proofs.Lending.{contactor-told, demand3-replied}
 use Rattle.rules.proofs.RefusalsAre.{refused-by}
-use Rattle.leaves.specs.declared.replies.Reply.{Reply}
-use Rattle.leaves.specs.Views.{asReply}
+use Rattle.parts.specs.declared.replies.Reply.{Reply}
+use Rattle.parts.specs.Views.{asReply}
 use Rattle.controller.specs.declared.Controller.{Controller}
-use Rattle.controller.specs.Answers.{handedBack}
+use Rattle.calls.specs.Answers.{handedBack}
 use Rattle.controller.specs.View.{view}
 use Rattle.claim.specs.Run.{Run}
-use Rattle.claim.specs.EveryRun.{told, lentTold, EveryRun}
+use Rattle.claim.specs.EveryRun.{replied, lentOfReplies, EveryRun}
 use Rattle.claim.proofs.Begun.{begin-accepted, begun-is}
 use Rattle.claim.proofs.Lending.{each-answered, final-is, reply-is, replies-are as all-replies}
 
@@ -51,7 +50,7 @@ module _ (begin : Begin) (calls : List Call) (begins : Reply) (replies : List Re
   pub final-told : view final ≡ lentAfter (begun begin) calls
   final-told = final-is (run .fresh) calls replies final (run .lends) ∙ ap (λ lent. lentAfter lent calls) fresh-is
 
-  replies-are : (k : ℕ) → k ≤ length calls → asReply (told begins replies k) ≡ replyBefore begin calls k
+  replies-are : (k : ℕ) → k ≤ length calls → asReply (replied begins replies k) ≡ replyBefore begin calls k
   replies-are zero within = begun-told
   replies-are (suc k) within =
       reply-is (run .fresh) calls replies final (run .lends) begins k within
@@ -61,11 +60,11 @@ module _ (begin : Begin) (calls : List Call) (begins : Reply) (replies : List Re
   final-lent : view final ≡ lentAt begin calls (length calls)
   final-lent = final-told ∙ ap (λ l. lentAfter (begun begin) l) (sym (take-length calls))
 
-  lent-told : (k : ℕ) → k ≤ length calls → lentAt begin calls k ≡ lentTold begin calls begins replies k
+  lent-told : (k : ℕ) → k ≤ length calls → lentAt begin calls k ≡ lentOfReplies begin calls begins replies k
   lent-told k within =
       let list = every-list begin calls accepted in
       let counted = list .carried k within ∙ sym (ap (λ r. r .closings) (replies-are k within)) in
-      λ i. record { kept = list .kept k within i; closings = counted i }
+      λ i. record { state = list .states-are k within i; closings = counted i }
 
   pub every-run : EveryRun begin calls begins replies final
   every-run =
@@ -76,19 +75,19 @@ module _ (begin : Begin) (calls : List Call) (begins : Reply) (replies : List Re
         refusals = λ k below. ap (λ r. r .refusal) (replies-are (suc k) below) ∙ list .refusals k below;
         waves = λ k within. ap (λ r. r .wave) (replies-are k within) ∙ list .waves k within;
         contactor-held =
-            ap (λ l. l .kept .closed) final-lent ∙ list .held (length calls) (omega arith) ∙ sym (ap (λ r. r .closed) whole);
+            ap (λ l. l .state .closed) final-lent ∙ list .held (length calls) (omega arith) ∙ sym (ap (λ r. r .closed) whole);
         closings-held =
             ap (λ l. l .closings) final-lent ∙ list .carried (length calls) (omega arith) ∙ sym (ap (λ r. r .closings) whole);
-        all-kept =
-            ap (λ l. l .kept) final-lent ∙ list .kept (length calls) (omega arith) ∙ ap (λ l. replay begin l) (take-length calls);
+        state-is =
+            ap (λ l. l .state) final-lent ∙ list .states-are (length calls) (omega arith) ∙ ap (λ l. replay begin l) (take-length calls);
         not-altered = λ known. clash (altered-exactly (view final) .1 known) (ap altered final-lent ∙ list .not-altered (length calls) (omega arith));
         replies-are = replies-are;
         demand3 =
-            demand3-replied begin calls accepted (λ k. told begins replies k .closed) (λ k. told begins replies k .closings)
+            demand3-replied begin calls accepted (λ k. replied begins replies k .closed) (λ k. replied begins replies k .closings)
             (λ k within. ap (λ r. r .closed) (replies-are k within))
             (λ k within. ap (λ r. r .closings) (replies-are k within));
         refused-by = λ k below.
-            subst (λ lent. RefusedBy lent (getD calls k noCall) (told begins replies (suc k) .refusal)) (lent-told k (omega arith))
+            subst (λ lent. RefusedBy lent (getD calls k noCall) (replied begins replies (suc k) .refusal)) (lent-told k (omega arith))
             (subst (RefusedBy (lentAt begin calls k) (getD calls k noCall)) (sym (ap (λ r. r .refusal) (replies-are (suc k) below)))
             (refused-by (lentAt begin calls k) (getD calls k noCall)));
         never-1 = λ k below one.
@@ -101,6 +100,6 @@ module _ (begin : Begin) (calls : List Call) (begins : Reply) (replies : List Re
         least-pause = list .least-pause;
         reached = list .reached;
         closed-is-sound =
-            closed-is-sound begin calls accepted (λ k. told begins replies k .closed) (λ k. told begins replies k .closings)
+            closed-is-sound begin calls accepted (λ k. replied begins replies k .closed) (λ k. replied begins replies k .closings)
             (λ k within. ap (λ r. r .closed) (replies-are k within) ∙ contactor-told begin calls accepted k within);
       }

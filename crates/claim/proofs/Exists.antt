@@ -5,24 +5,25 @@ use mathlib.Core.List.{List, [], _∷_}
 use lib.Dec.{eqb}
 use Rattle.rules.specs.Answer.{begun, next, replyTo, lentAfter, alone, answerToBegin}
 use Rattle.rules.specs.Begin.{Begin, beginRefusal}
-use Rattle.rules.specs.Calls.{Call, heard, inTurn}
+use Rattle.rules.specs.Calls.{Call, evaluatedCall, inTurn}
 use Rattle.rules.specs.Lent.{Lent}
 use Rattle.rules.specs.Reply.{shown}
-use Rattle.leaves.specs.declared.replies.Reply.{Reply}
+use Rattle.parts.specs.declared.replies.Reply.{Reply}
 use Rattle.controller.specs.declared.Controller.{Controller}
 use Rattle.controller.specs.View.{view}
-use Rattle.controller.proofs.Fixes.{controllerOf, replyOf}
+use Rattle.controller.proofs.Fixes.{controllerOf}
+use Rattle.calls.proofs.Fixes.{replyOf}
 use Rattle.claim.specs.Run.{Lends, HasRun}
 
 -- the replies that the definitions give
 repliesOf : Lent → List Call → List Reply
 repliesOf lent [] = []
-repliesOf lent (call ∷ calls) = replyOf (replyTo lent (heard call)) ∷ repliesOf (next lent (heard call)) calls
+repliesOf lent (call ∷ calls) = replyOf (replyTo lent (evaluatedCall call)) ∷ repliesOf (next lent (evaluatedCall call)) calls
 
 lends-all : (lent : Lent) (calls : List Call) → Lends (controllerOf lent) calls (repliesOf lent calls) (controllerOf (lentAfter lent calls))
 unfolding repliesOf inTurn
 lends-all lent [] = refl
-lends-all lent (call ∷ calls) = (controllerOf (next lent (heard call)), refl, lends-all (next lent (heard call)) calls)
+lends-all lent (call ∷ calls) = (controllerOf (next lent (evaluatedCall call)), refl, lends-all (next lent (evaluatedCall call)) calls)
 
 pub has-run : (lent : Controller) (begin : Begin) (calls : List Call) → beginRefusal begin ≡ 0 → HasRun lent begin calls
 unfolding answerToBegin

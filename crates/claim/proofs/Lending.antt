@@ -4,12 +4,11 @@ use mathlib.Core.List.{List, [], _∷_, map}
 use Prim.Native.Nat.{ℕ, zero, suc, _<_}
 use native.Mathlib.Nat.{not-suc-le-zero, le-of-suc-le-suc}
 use lib.ListN.{length, getD, take}
-use Rattle.rules.specs.Answer.{replyTo, lentAfter}
-use Rattle.rules.specs.Calls.{Call, heard, inTurn}
-use Rattle.rules.specs.Sequences.{repliesTo}
+use Rattle.rules.specs.Answer.{replyTo, lentAfter, repliesTo}
+use Rattle.rules.specs.Calls.{Call, evaluatedCall, inTurn}
 use Rattle.rules.specs.Traces.{noCall}
-use Rattle.leaves.specs.declared.replies.Reply.{Reply}
-use Rattle.leaves.specs.Views.{asReply}
+use Rattle.parts.specs.declared.replies.Reply.{Reply}
+use Rattle.parts.specs.Views.{asReply}
 use Rattle.controller.specs.declared.Controller.{Controller}
 use Rattle.controller.specs.View.{view}
 use Rattle.claim.specs.Run.{Lends}
@@ -32,14 +31,14 @@ final-is c (call ∷ calls) (reply ∷ replies) final (after, answers, rest) =
 
 pub reply-is : (c : Controller) (calls : List Call) (replies : List Reply) (final : Controller) → Lends c calls replies final
     → (none : Reply) (k : ℕ) → k < length calls
-    → asReply (getD replies k none) ≡ replyTo (lentAfter (view c) (take k calls)) (heard (getD calls k noCall))
+    → asReply (getD replies k none) ≡ replyTo (lentAfter (view c) (take k calls)) (evaluatedCall (getD calls k noCall))
 unfolding inTurn
 reply-is c [] replies final lends none k below = absurd (not-suc-le-zero below)
 reply-is c (call ∷ calls) [] final lends none k below = absurd lends
 reply-is c (call ∷ calls) (reply ∷ replies) final (after, answers, rest) none zero below = ap (λ a. a .reply) answers
 reply-is c (call ∷ calls) (reply ∷ replies) final (after, answers, rest) none (suc k) below =
     reply-is after calls replies final rest none k (le-of-suc-le-suc below)
-    ∙ ap (λ lent. replyTo (lentAfter lent (take k calls)) (heard (getD calls k noCall))) (ap (λ a. a .lent) answers)
+    ∙ ap (λ lent. replyTo (lentAfter lent (take k calls)) (evaluatedCall (getD calls k noCall))) (ap (λ a. a .lent) answers)
 
 -- all replies of a run together
 pub replies-are : (c : Controller) (calls : List Call) (replies : List Reply) (final : Controller)

@@ -6,8 +6,8 @@ use Rattle.rules.specs.Begin.{Begin}
 use Rattle.rules.specs.Calls.{Call}
 use Rattle.rules.specs.RefusalsAre.{RefusedBy, BeginRefusedBy}
 use Rattle.rules.specs.Reply.{shown}
-use Rattle.leaves.specs.declared.replies.Reply.{Reply}
-use Rattle.leaves.specs.Views.{asReply}
+use Rattle.parts.specs.declared.replies.Reply.{Reply}
+use Rattle.parts.specs.Views.{asReply}
 use Rattle.controller.specs.declared.Controller.{Controller}
 use Rattle.controller.specs.View.{view}
 

@@ -5,9 +5,9 @@ use mathlib.Core.List.{List, [], _∷_}
 use Prim.Native.Nat.{ℕ}
 use Rattle.rules.specs.Begin.{Begin}
 use Rattle.rules.specs.Calls.{Call}
-use Rattle.leaves.specs.declared.replies.Reply.{Reply}
+use Rattle.parts.specs.declared.replies.Reply.{Reply}
 use Rattle.controller.specs.declared.Controller.{Controller}
-use Rattle.controller.specs.Answers.{Answers, Begins}
+use Rattle.calls.specs.Answers.{Answers, Begins}
 
 -- the calls in turn: lent `before`, they hand back the replies, and the last one `final`
 abbrev pub Lends : Controller → List Call → List Reply → Controller → Type 0
@@ -17,6 +17,7 @@ Lends before (call ∷ calls) [] final = ⊥
 Lends before (call ∷ calls) (reply ∷ replies) final =
     (after : Controller) × Answers call before reply after × Lends after calls replies final
 
+-- an accepted begin, the list of calls after it, every reply, and the controller at the end
 pub record Run (begin : Begin) (calls : List Call) (begun : Reply) (replies : List Reply) (final : Controller) : Type 0 where
   -- what the host lends to begin, and what it gets back
   pub lent : Controller

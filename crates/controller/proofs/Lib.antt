@@ -1,5 +1,4 @@
 -- Laws that belong to no one function.
 mod InTurn
-mod HandedBack
 pub mod Fixes
 pub mod ZeroLaws

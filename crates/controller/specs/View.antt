@@ -4,18 +4,20 @@ use mathlib.Core.Bool.{Bool}
 use Prim.Native.Nat.{ℕ}
 use Rattle.units.specs.declared.Millis.{Millis}
 use Rattle.rules.specs.Accepted.{accept, closesAt}
-use Rattle.rules.specs.Calls.{Heard}
+use Rattle.rules.specs.Calls.{EvaluatedCall}
 use Rattle.rules.specs.Lent.{Lent}
 use Rattle.rules.specs.Pairs.{Pair}
 use Rattle.rules.specs.State.{State}
 use Rattle.rules.specs.Step5Closing.{closes, stepClosing}
-use Rattle.leaves.specs.declared.events.Event.{Event}
-use Rattle.leaves.specs.Counted.{counted}
-use Rattle.leaves.specs.Views.{asMoment, asPrevious, asSettings, asFaults, asEvent}
+use Rattle.events.specs.declared.Event.{Event}
+use Rattle.parts.specs.Counted.{counted}
+use Rattle.parts.specs.Views.{asMoment, asPrevious, asSettings, asFaults}
+use Rattle.events.specs.Views.{asEvent}
 use Rattle.controller.specs.declared.Controller.{Controller}
 
-abbrev pub kept : Controller → State
-kept c =
+-- the state that a controller stands for
+abbrev pub stateOf : Controller → State
+stateOf c =
     record {
       settings = asSettings (c .settings);
       limit = c .limit .0;
@@ -31,22 +33,24 @@ kept c =
       previous = asPrevious (c .previous);
     }
 
+-- a controller as it is lent to a call: its state, and the closings that it carries
 abbrev pub view : Controller → Lent
-view c = record { kept = kept c; closings = c .closings }
+view c = record { state = stateOf c; closings = c .closings }
 
 -- a step works on what is kept, and the count stays
-abbrev pub onKept : (State → State) → Lent → Lent
-onKept step lent = record { kept = step (lent .kept); closings = lent .closings }
+abbrev pub onState : (State → State) → Lent → Lent
+onState step lent = record { state = step (lent .state); closings = lent .closings }
 
 -- step 5, with the count as 32 bits hold it
 abbrev pub onClosing : Bool → ℕ → Pair → Lent → Lent
-onClosing opened now pair lent =
-    record { kept = stepClosing opened now pair (lent .kept); closings = counted (closes opened now pair (lent .kept)) (lent .closings) }
+onClosing opened time pair lent =
+    record { state = stepClosing opened time pair (lent .state); closings = counted (closes opened time pair (lent .state)) (lent .closings) }
 
 -- an accepted call, so too
-abbrev pub onAccepted : Heard → Lent → Lent
+abbrev pub onAccepted : EvaluatedCall → Lent → Lent
 onAccepted call lent =
-    record { kept = accept (lent .kept) call; closings = counted (closesAt (lent .kept) call) (lent .closings) }
+    record { state = accept (lent .state) call; closings = counted (closesAt (lent .state) call) (lent .closings) }
 
-abbrev pub heardAt : Millis → Event → Heard
-heardAt now event = record { time = now .0; event = asEvent event }
+-- a call of the code: its time, kind and arguments
+abbrev pub evaluatedAt : Millis → Event → EvaluatedCall
+evaluatedAt time event = record { time = time .0; event = asEvent event }

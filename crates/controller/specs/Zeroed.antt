@@ -8,7 +8,7 @@ use Rattle.rules.specs.State.{Settings, unsettled, noFaults, empty, forgotten}
 abbrev pub blank : Settings → ℕ → ℕ → Lent
 blank settings wave last =
     record {
-      kept = record {
+      state = record {
         settings = settings;
         limit = 0;
         wave = wave;
@@ -25,5 +25,6 @@ blank settings wave last =
       closings = 0;
     }
 
+-- cleared memory
 abbrev pub zeroed : Lent
 zeroed = blank (record { rated = 0; pause = 0; ventilation = false }) 0 0

@@ -6,12 +6,14 @@ use Rattle.duty.specs.declared.Reading.the-variants.{NoCharging, Digital
 use Rattle.duty.specs.declared.Greatest.{Greatest}
 use Rattle.duty.specs.declared.Greatest.the-variants.{Duty, TooLow}
 
+-- the reading of a duty; above 1000, refusal 9
 abbrev pub asReads : Reading → Reads
 asReads NoCharging = noCharging
 asReads DigitalOnly = digitalOnly
 asReads (Current milliamps) = current (milliamps .0)
 asReads AboveScale = refused 9
 
+-- the duty for an available current; below 6,000, refusal 10
 abbrev pub asSends : Greatest → Sends
 asSends (Duty d) = duty d
 asSends TooLow = refusal 10

@@ -24,6 +24,7 @@ atMost available (refused number) = false
 unfoldable pub allowed : ℕ → ℕ → Bool
 allowed available d = fromTo 100 960 d && atMost available (readingOf d)
 
+-- the duty that was found, or the refusal where there is none
 unfoldable pub orRefusal : ℕ → Option ℕ → Sends
 orRefusal number none = refusal number
 orRefusal number (some d) = duty d

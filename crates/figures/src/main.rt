@@ -1,12 +1,12 @@
 // Bench figures, faults seen in the field and the table of refusals, through the proved functions. What it writes is held to the
 // file stdout.
 mod cycles;
+mod lines;
 mod print;
 mod readings;
 mod refusals;
 mod rows;
 mod same;
-mod told;
 
 fn main() {
     rows::duties();

@@ -1,4 +1,4 @@
-// Windows of readings to weigh.
+// Windows of readings to evaluate.
 
 // Puts one level at the first `count` places of the window.
 pub fn put(window: &mut [i32], count: usize, level: i32) {

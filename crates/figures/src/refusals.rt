@@ -1,20 +1,20 @@
 // Refusals 1 to 8: each number with the reply beside it, and the controller before and after.
 use crate::cycles;
+use crate::lines;
 use crate::print;
 use crate::readings;
 use crate::same;
-use crate::told;
-use controller::Answer;
+use calls::Answer;
 use controller::Controller;
-use leaves::moments::Moment;
-use leaves::settings::Settings;
+use parts::moments::Moment;
+use parts::settings::Settings;
 use units::Milliamps;
 use units::Millis;
 
 // The name, the reply, and whether the controller is as it was.
 fn row(name: &[u8], before: Controller, a: Answer) {
     print::text(name);
-    told::reply(a.reply);
+    lines::reply(a.reply);
     let same = same::controllers(before, a.controller);
     if same {
         print::text(b"  controller unchanged\n");
@@ -24,27 +24,27 @@ fn row(name: &[u8], before: Controller, a: Answer) {
 }
 
 fn begin(c: Controller, name: &[u8], time: u64, rated: u32, pause: u64) {
-    let a = controller::begin(c, time, rated, pause, false);
+    let a = calls::begin(c, time, rated, pause, false);
     row(name, c, a);
 }
 
 fn tick(c: Controller, name: &[u8], time: u64) {
-    let a = controller::tick(c, time);
+    let a = calls::tick(c, time);
     row(name, c, a);
 }
 
 fn limit(c: Controller, name: &[u8], time: u64, current: u32) {
-    let a = controller::limit(c, time, current);
+    let a = calls::limit(c, time, current);
     row(name, c, a);
 }
 
 fn measure(c: Controller, name: &[u8], time: u64, current: u32) {
-    let a = controller::measure(c, time, current);
+    let a = calls::measure(c, time, current);
     row(name, c, a);
 }
 
 fn fault(c: Controller, name: &[u8], time: u64, kind: u32) {
-    let a = controller::fault(c, time, kind);
+    let a = calls::fault(c, time, kind);
     row(name, c, a);
 }
 
@@ -72,9 +72,9 @@ fn times(c: Controller) {
     tick(c, b"tick at 39                         ", 39);
     tick(c, b"tick at 1000000000001              ", 1000000000001);
     limit(c, b"limit 80001 at 39                  ", 39, 80001);
-    let a = controller::clear(c, 39);
+    let a = calls::clear(c, 39);
     row(b"clear at 39                        ", c, a);
-    let a = told::sampled(c, 39, 6000, 6000);
+    let a = lines::sampled(c, 39, 6000, 6000);
     row(b"sample at 39                       ", c, a);
 }
 
@@ -87,14 +87,14 @@ fn arguments(c: Controller) {
 
 fn windows(c: Controller) {
     let short = [15001; 255];
-    let a = controller::sample(c, 50, &short);
+    let a = calls::sample(c, 50, &short);
     row(b"sample of 255 readings of 15001    ", c, a);
     let mut window = [6000; 256];
     readings::put(&mut window, 1, 15001);
-    let a = controller::sample(c, 50, &window);
+    let a = calls::sample(c, 50, &window);
     row(b"sample with one reading of 15001   ", c, a);
     readings::groups_of_seven(&mut window);
-    let a = controller::sample(c, 50, &window);
+    let a = calls::sample(c, 50, &window);
     row(b"sample of 256, in groups of 7      ", c, a);
 }
 

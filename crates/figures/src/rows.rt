@@ -7,7 +7,7 @@ use pilot::bands;
 use pilot::verdicts;
 use units::Milliamps;
 use units::Millivolts;
-use window::Weighed;
+use window::Evaluated;
 
 fn available(milliamps: u32) {
     print::text(b"available ");
@@ -96,32 +96,32 @@ fn compare(found_high: Millivolts, found_low: Millivolts, high: i32, low: i32) {
 }
 
 // The answer to a window.
-fn weighs(name: &[u8], window: &[i32], high: i32, low: i32) {
+fn evaluates(name: &[u8], window: &[i32], high: i32, low: i32) {
     print::text(name);
-    match window::weigh(window) {
-        Weighed::Levels { high: h, low: l } => compare(h, l, high, low),
-        Weighed::WrongLength => print::text(b": refused 4\n"),
-        Weighed::OutOfRange => print::text(b": refused 5\n"),
-        Weighed::Unsupported => print::text(b": refused 6\n"),
+    match window::evaluate(window) {
+        Evaluated::Levels { high: h, low: l } => compare(h, l, high, low),
+        Evaluated::WrongLength => print::text(b": refused 4\n"),
+        Evaluated::OutOfRange => print::text(b": refused 5\n"),
+        Evaluated::Unsupported => print::text(b": refused 6\n"),
     }
 }
 
 pub fn lengths() {
     let readings = [6000; 1025];
-    weighs(b"255 readings", &readings[..255], 6000, 6000);
-    weighs(
+    evaluates(b"255 readings", &readings[..255], 6000, 6000);
+    evaluates(
         b"256 readings at 6000 give high 6000, low 6000",
         &readings[..256],
         6000,
         6000,
     );
-    weighs(
+    evaluates(
         b"1024 readings at 6000 give high 6000, low 6000",
         &readings[..1024],
         6000,
         6000,
     );
-    weighs(b"1025 readings", &readings, 6000, 6000);
+    evaluates(b"1025 readings", &readings, 6000, 6000);
 }
 
 // A window of 256 readings at -12000, but for the first `count` at one level and the very first at another.
@@ -129,7 +129,7 @@ fn top(name: &[u8], count: usize, level: i32, first: i32, high: i32, low: i32) {
     let mut window = [-12000; 256];
     readings::put(&mut window, count, level);
     readings::put(&mut window, 1, first);
-    weighs(name, &window, high, low);
+    evaluates(name, &window, high, low);
 }
 
 pub fn support() {
@@ -180,7 +180,7 @@ fn groups(name: &[u8], first: i32) {
     let mut window = [0; 256];
     readings::groups_of_seven(&mut window);
     readings::put(&mut window, 1, first);
-    weighs(name, &window, 0, 0);
+    evaluates(name, &window, 0, 0);
 }
 
 pub fn ranges() {

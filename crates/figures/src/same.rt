@@ -1,9 +1,9 @@
 // Whether two controllers agree in every field.
 use controller::Controller;
-use leaves::faults::Faults;
-use leaves::moments::Moment;
-use leaves::samples::Previous;
-use leaves::settings::Settings;
+use parts::faults::Faults;
+use parts::moments::Moment;
+use parts::samples::Previous;
+use parts::settings::Settings;
 use units::conditions;
 
 fn moments(a: Moment, b: Moment) -> bool {

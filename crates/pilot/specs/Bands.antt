@@ -5,6 +5,7 @@ use lib.Dec.{eqb}
 use lib.IntN.{ℤ, pos, negℤ}
 use Rattle.units.specs.Range.{within}
 
+-- the letters of the bands, and the 0 of a high level that has none
 abbrev pub bandA : ℕ
 bandA = 65
 

@@ -7,7 +7,7 @@ use lib.Dec.{eqb, leb, ltb}
 use borrow.Author.Tests.{eqb-true, ltb-false, leb-true}
 use Rattle.units.specs.Range.{fromTo}
 use Rattle.rules.specs.Begin.{Begin, largestTime, ratedAllowed, pauseAllowed, pauseFor, beginRefusal}
-use Rattle.rules.specs.Calls.{Heard}
+use Rattle.rules.specs.Calls.{EvaluatedCall}
 use Rattle.rules.specs.Lent.{Lent, mostClosings, inRange, altered, lentRefusal}
 use Rattle.rules.specs.Refusals.{orElse, timeRefusal, argumentRefusal, refusal}
 use Rattle.rules.specs.Replay.{isAccepted}
@@ -23,11 +23,11 @@ neither a b e = go (eqb a 0) refl e
     go false p q = clash q p
 
 -- an accepted call was lent a controller whose count is in range
-pub count-in-range : (lent : Lent) (call : Heard) → eqb (lentRefusal lent call) 0 ≡ true → lent .closings ≤ mostClosings
+pub count-in-range : (lent : Lent) (call : EvaluatedCall) → eqb (lentRefusal lent call) 0 ≡ true → lent .closings ≤ mostClosings
 unfolding lentRefusal altered
 count-in-range lent call e =
-    go (inRange (lent .kept)) (leb (lent .closings) mostClosings) refl
-    (neither (cond (altered lent) 1 0) (argumentRefusal (call .event)) (is-none (neither (timeRefusal (lent .kept) (call .time)) _ e .1)) .0)
+    go (inRange (lent .state)) (leb (lent .closings) mostClosings) refl
+    (neither (cond (altered lent) 1 0) (argumentRefusal (call .event)) (is-none (neither (timeRefusal (lent .state) (call .time)) _ e .1)) .0)
   where
     is-none : {n : ℕ} → n ≡ 0 → eqb n 0 ≡ true
     is-none p = ap (λ m. eqb m 0) p
@@ -37,7 +37,7 @@ count-in-range lent call e =
     go true false p q = absurd (omega arith)
     go false few p q = absurd (omega arith)
 
-module _ (s : State) (call : Heard) (into : isAccepted s call ≡ true) where
+module _ (s : State) (call : EvaluatedCall) (into : isAccepted s call ≡ true) where
   both : (timeRefusal s (call .time) ≡ 0) × (argumentRefusal (call .event) ≡ 0)
   unfolding refusal
   both = neither (timeRefusal s (call .time)) (argumentRefusal (call .event)) into

@@ -45,7 +45,7 @@ stored-exactly last stored = (λ e. to (stored .set) refl e, λ above. rw (above
 
 module _ (lent : Lent) where
   abbrev s : State
-  s = lent .kept
+  s = lent .state
 
   to-altered : altered lent ≡ true → Altered lent
   unfolding altered inRange timesAllowed ratedAllowed pauseAllowed

@@ -9,7 +9,7 @@ use Rattle.units.specs.Range.{fromTo}
 use Rattle.units.specs.Wave.{driven}
 use Rattle.units.proofs.LevelOrder.{and-parts}
 use Rattle.rules.specs.Accepted.{pairAt, causeAt, opensAt, afterWave, accept}
-use Rattle.rules.specs.Calls.{Heard}
+use Rattle.rules.specs.Calls.{EvaluatedCall}
 use Rattle.rules.specs.Pairs.{paired, bothUnsound}
 use Rattle.rules.specs.State.{State, Moment, anyFault, empty, setTo, startedBy}
 use Rattle.rules.specs.Step1Event.{soundBy}
@@ -22,17 +22,17 @@ use Rattle.rules.proofs.OneCall.{ProvenPair}
 use Rattle.rules.proofs.Samples.{verdict-sound}
 
 -- under a driven wave no stop runs
-no-stop-driven : (now wave : ℕ) (closed : Bool) (stop : Moment) → driven wave ≡ true → stopUnder now wave closed stop ≡ empty
+no-stop-driven : (time wave : ℕ) (closed : Bool) (stop : Moment) → driven wave ≡ true → stopUnder time wave closed stop ≡ empty
 unfolding stopUnder driven fromTo
-no-stop-driven now wave closed stop e = go (closed && eqb wave steadyHigh) refl
+no-stop-driven time wave closed stop e = go (closed && eqb wave steadyHigh) refl
   where
-    go : (b : Bool) → closed && eqb wave steadyHigh ≡ b → cond b (startedBy now stop) (cond (driven wave) empty stop) ≡ empty
+    go : (b : Bool) → closed && eqb wave steadyHigh ≡ b → cond b (startedBy time stop) (cond (driven wave) empty stop) ≡ empty
     go true p =
         let is = eqb-true wave steadyHigh (and-parts closed (eqb wave steadyHigh) p .1) in
         clash (ap driven (sym is) ∙ e) refl
     go false p = ap (λ b. cond b empty stop) e
 
-module _ (s : State) (call : Heard) (wave : driven (accept s call .wave) ≡ true) (pair : ProvenPair (pairAt s call)) where
+module _ (s : State) (call : EvaluatedCall) (wave : driven (accept s call .wave) ≡ true) (pair : ProvenPair (pairAt s call)) where
   own-sound : accept s call .sound ≡ setTo (call .time)
   unfolding soundBy
   own-sound = rw (pair .sampled, verdict-sound s (call .event) (pair .second-proven))
@@ -40,10 +40,10 @@ module _ (s : State) (call : Heard) (wave : driven (accept s call .wave) ≡ tru
   no-cause1 : bothUnsound (pairAt s call) ≡ true → ⊥
   unfolding bothUnsound
   no-cause1 e =
-      let now = pairAt s call in
-      let parts = and-parts (paired now) _ e .1 in
-      let unsound = and-parts (not (now .previous .verdict .sound)) (not (now .this .sound)) parts .1 in
-      clash (verdict-sound s (call .event) (pair .second-proven)) (not-true (now .this .sound) unsound)
+      let both = pairAt s call in
+      let parts = and-parts (paired both) _ e .1 in
+      let unsound = and-parts (not (both .previous .verdict .sound)) (not (both .this .sound)) parts .1 in
+      clash (verdict-sound s (call .event) (pair .second-proven)) (not-true (both .this .sound) unsound)
 
   no-cause2 : cause2 (call .time) (afterWave s call) ≡ true → ⊥
   unfolding cause2

@@ -2,18 +2,18 @@
 use native.Mathlib.Omega.{arith}
 use Rattle.rules.specs.Claim.{Trace, Demand3}
 use Rattle.rules.proofs.Exactly.{exactly}
-use Rattle.rules.proofs.Lawful.{Kept, Lawful}
+use Rattle.rules.proofs.Lawful.{Memory, Lawful}
 use Rattle.rules.proofs.Remembered.{proves}
 use Rattle.rules.proofs.Rests.{rests}
 use Rattle.rules.proofs.Spacing.{counts, at-most, spans}
 
-pub demand3-of : (t : Trace) (kept : Kept) → Lawful t kept → Demand3 t
-demand3-of t kept laws =
+pub demand3-of : (t : Trace) (memory : Memory) → Lawful t memory → Demand3 t
+demand3-of t memory laws =
     record {
-      exactly = exactly t kept laws;
-      proves = proves t kept laws;
-      rests = rests t kept laws;
-      counts = counts t kept laws (t .length) (omega arith);
-      at-most = at-most t kept laws (t .length) (omega arith);
-      spans = spans t kept laws;
+      exactly = exactly t memory laws;
+      proves = proves t memory laws;
+      rests = rests t memory laws;
+      counts = counts t memory laws (t .length) (omega arith);
+      at-most = at-most t memory laws (t .length) (omega arith);
+      spans = spans t memory laws;
     }

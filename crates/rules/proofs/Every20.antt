@@ -10,7 +10,7 @@ use lib.ListN.{length, take}
 use borrow.Author.Tests.{leb-true}
 use Rattle.units.proofs.LevelOrder.{and-parts}
 use Rattle.rules.specs.Begin.{Begin, beginRefusal, fresh}
-use Rattle.rules.specs.Calls.{Call, Heard, isSample, inTurn}
+use Rattle.rules.specs.Calls.{Call, EvaluatedCall, isSample, inTurn}
 use Rattle.rules.specs.Claim.{Trace}
 use Rattle.rules.specs.Every20.{LastAccepted, Consecutive, SoundWithin100, ClosedIsSound}
 use Rattle.rules.specs.Lent.{storedAllowed}
@@ -44,7 +44,7 @@ module _ (begin : Begin) (calls : List Call) where
       s : State
       s = before begin calls n
 
-      call : Heard
+      call : EvaluatedCall
       call = callAt begin calls n
 
       same : before begin calls (suc n) .sound ≡ s .sound → (s .sound .set ≡ true → (j : ℕ) × LastSound j n) → (j : ℕ) × LastSound j (suc n)
@@ -78,9 +78,9 @@ module _ (begin : Begin) (calls : List Call) where
       let s = before begin calls n in
       leb-true (s .sound .time) (s .last) (rw set at (list-in-range begin (take n calls) accepted .sound))
 
-  module _ (accepted : beginRefusal begin ≡ 0) (told : ℕ → Bool) (carried : ℕ → ℕ) (told-is : (k : ℕ) → k ≤ length calls → told k ≡ before begin calls k .closed) where
+  module _ (accepted : beginRefusal begin ≡ 0) (toldClosed : ℕ → Bool) (carried : ℕ → ℕ) (told-is : (k : ℕ) → k ≤ length calls → toldClosed k ≡ before begin calls k .closed) where
     abbrev t : Trace
-    t = traceOf begin calls told carried
+    t = traceOf begin calls toldClosed carried
 
     -- the time of the last accepted call is kept
     last-is : (i n : ℕ) → LastAccepted t i n → before begin calls n .last ≡ t .time i
@@ -100,15 +100,15 @@ module _ (begin : Begin) (calls : List Call) where
             let is : i ≡ n = omega (arith, known .before) in
             ap (λ x. x .last) (accepted-is begin calls n (known .within) (rw is at (known .accepted .1))) ∙ ap (λ k. t .time k) (sym is)
 
-    after-last : (i n moment : ℕ) → LastAccepted t i n → t .time i ≤ moment → moment ≤ t .time i + 20 → t .told n ≡ true → SoundWithin100 t n moment
+    after-last : (i n moment : ℕ) → LastAccepted t i n → t .time i ≤ moment → moment ≤ t .time i + 20 → t .toldClosed n ≡ true → SoundWithin100 t n moment
     after-last i n moment known past due closed =
         let here = list-reaches begin (take n calls) in
         let is : before begin calls n .closed ≡ true = sym (told-is n (known .within)) ∙ closed in
-        let sample = last-sound n (known .within) (here .closed-heard is) in
+        let sample = last-sound n (known .within) (here .closed-sampled is) in
         let recent = here .closed-sound is in
         let last = last-is i n known in
         let stored = sample .1 .stored in
-        let before-last = sound-past accepted n (here .closed-heard is) in
+        let before-last = sound-past accepted n (here .closed-sampled is) in
         record {
           sample = sample .0;
           before = sample .1 .earlier;

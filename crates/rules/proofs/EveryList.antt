@@ -6,7 +6,7 @@ use Prim.Native.Nat.{ℕ, zero, suc}
 use native.Mathlib.Omega.{arith}
 use lib.ListN.{length, take}
 use Rattle.rules.specs.Begin.{Begin, beginRefusal, fresh}
-use Rattle.rules.specs.Calls.{Call, heard, inTurn}
+use Rattle.rules.specs.Calls.{Call, evaluatedCall, inTurn}
 use Rattle.rules.specs.Claim.{Trace, leastPause}
 use Rattle.rules.specs.EveryList.{EveryList}
 use Rattle.rules.specs.Lent.{altered, lentRefusal}
@@ -22,7 +22,7 @@ use Rattle.rules.proofs.Stepped.{step-to}
 settings-kept : (s : State) (calls : List Call) → inTurn step s calls .settings ≡ s .settings
 unfolding inTurn
 settings-kept s [] = refl
-settings-kept s (call ∷ calls) = settings-kept (step s (heard call)) calls ∙ step-to s (heard call) (λ x. x .settings) (s .settings) refl ∙ same (isAccepted s (heard call))
+settings-kept s (call ∷ calls) = settings-kept (step s (evaluatedCall call)) calls ∙ step-to s (evaluatedCall call) (λ x. x .settings) (s .settings) refl ∙ same (isAccepted s (evaluatedCall call))
   where
     same : (a : Bool) → cond a (s .settings) (s .settings) ≡ s .settings
     same true = refl
@@ -44,9 +44,9 @@ every-list begin calls accepted =
       demand3 = demand3 begin calls accepted;
       refusals = λ k below.
           ap (λ l. lentRefusal l (callAt begin calls k)) (lent-is begin calls accepted k (omega arith)) ∙ lent-refusal _ (callAt begin calls k) (tally-not-altered begin calls accepted k (omega arith));
-      waves = reply-is begin calls accepted (λ l. l .kept .wave) (λ k. replyBefore begin calls k .wave) refl (λ k. refl);
-      kept = λ k within. ap (λ l. l .kept) (lent-is begin calls accepted k within);
-      held = λ k within. ap (λ l. l .kept .closed) (lent-is begin calls accepted k within) ∙ sym (contactor-told begin calls accepted k within);
+      waves = reply-is begin calls accepted (λ l. l .state .wave) (λ k. replyBefore begin calls k .wave) refl (λ k. refl);
+      states-are = λ k within. ap (λ l. l .state) (lent-is begin calls accepted k within);
+      held = λ k within. ap (λ l. l .state .closed) (lent-is begin calls accepted k within) ∙ sym (contactor-told begin calls accepted k within);
       carried = λ k within. ap (λ l. l .closings) (lent-is begin calls accepted k within) ∙ sym (closings-told begin calls accepted k within);
       not-altered = λ k within. ap altered (lent-is begin calls accepted k within) ∙ tally-not-altered begin calls accepted k within;
       reached = λ k within. list-reaches begin (take k calls);

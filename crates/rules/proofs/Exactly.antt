@@ -8,9 +8,9 @@ use native.Mathlib.Nat.{not-suc-le-zero}
 use native.Mathlib.Omega.{arith}
 use Rattle.rules.specs.Claim.{Trace, HeldSince}
 use Rattle.rules.proofs.Booleans.{clash}
-use Rattle.rules.proofs.Lawful.{Kept, Lawful, Law, Outcome, refused, stays, shuts, opens, outcome}
+use Rattle.rules.proofs.Lawful.{Memory, Lawful, Law, Outcome, refused, stays, shuts, opens, outcome}
 
-module _ (t : Trace) (kept : Kept) (laws : Lawful t kept) where
+module _ (t : Trace) (memory : Memory) (laws : Lawful t memory) where
   -- the same among the first n calls
   pub record HeldIn (n k : ℕ) : Type 0 where
     pub below : k < n
@@ -34,26 +34,26 @@ module _ (t : Trace) (kept : Kept) (laws : Lawful t kept) where
           let same : j ≡ n = omega arith in
           rw same (here (rw (← same) accepted))
 
-  pub held : (n : ℕ) → n ≤ t .length → t .told n ≡ true → (k : ℕ) × HeldIn n k
+  pub held : (n : ℕ) → n ≤ t .length → t .toldClosed n ≡ true → (k : ℕ) × HeldIn n k
   held zero within closed = clash closed (laws .starts-open)
-  held (suc n) within closed = go (outcome t kept n (laws .each n within)) (held n (omega arith))
+  held (suc n) within closed = go (outcome t memory n (laws .each n within)) (held n (omega arith))
     where
-      go : Outcome t kept n → (t .told n ≡ true → (k : ℕ) × HeldIn n k) → (k : ℕ) × HeldIn (suc n) k
+      go : Outcome t memory n → (t .toldClosed n ≡ true → (k : ℕ) × HeldIn n k) → (k : ℕ) × HeldIn (suc n) k
       go (refused out same move) earlier =
           let known = earlier (sym same ∙ closed) in
           (known .0, longer n (known .0) (known .1) (λ into. clash into out))
       go (stays into same move no-cause unmet) earlier =
           let known = earlier (sym same ∙ closed) in
           (known .0, longer n (known .0) (known .1) (λ again. no-cause (sym same ∙ closed)))
-      go (shuts into before now move met) earlier =
+      go (shuts into before time move met) earlier =
           (n, record { below = omega arith; accepted = into; met = met; no-cause = λ j after below accepted. absurd (omega arith) })
-      go (opens into before now move why unmet forgot) earlier = clash closed now
+      go (opens into before time move why unmet forgot) earlier = clash closed time
 
-  pub closed-since : (n k : ℕ) → n ≤ t .length → HeldIn n k → t .told n ≡ true
+  pub closed-since : (n k : ℕ) → n ≤ t .length → HeldIn n k → t .toldClosed n ≡ true
   closed-since zero k within since = absurd (not-suc-le-zero (since .below))
-  closed-since (suc n) k within since = go (decLt k n) (outcome t kept n law) (closed-since n k (omega arith))
+  closed-since (suc n) k within since = go (decLt k n) (outcome t memory n law) (closed-since n k (omega arith))
     where
-      law : Law t kept n
+      law : Law t memory n
       law = laws .each n within
 
       before : k < n → HeldIn n k
@@ -65,20 +65,20 @@ module _ (t : Trace) (kept : Kept) (laws : Lawful t kept) where
             no-cause = λ j after below accepted. since .no-cause j after (omega arith) accepted;
           }
 
-      go : Dec (k < n) → Outcome t kept n → (HeldIn n k → t .told n ≡ true) → t .told (suc n) ≡ true
+      go : Dec (k < n) → Outcome t memory n → (HeldIn n k → t .toldClosed n ≡ true) → t .toldClosed (suc n) ≡ true
       go (yes earlier) (refused out same move) ih = same ∙ ih (before earlier)
       go (yes earlier) (stays into same move no-cause unmet) ih = same ∙ ih (before earlier)
-      go (yes earlier) (shuts into was now move met) ih = now
-      go (yes earlier) (opens into closed now move why unmet forgot) ih = clash why (since .no-cause n earlier (omega arith) into)
+      go (yes earlier) (shuts into was time move met) ih = time
+      go (yes earlier) (opens into closed time move why unmet forgot) ih = clash why (since .no-cause n earlier (omega arith) into)
       go (no later) what ih = here what (omega (arith, since .below))
         where
-          here : Outcome t kept n → k ≡ n → t .told (suc n) ≡ true
+          here : Outcome t memory n → k ≡ n → t .toldClosed (suc n) ≡ true
           here (refused out same move) is = clash (rw is at (since .accepted)) out
           here (stays into same move no-cause unmet) is = clash (rw is at (since .met)) unmet
-          here (shuts into was now move met) is = now
-          here (opens into closed now move why unmet forgot) is = clash closed (law .meets (rw is at (since .met)) .was-open)
+          here (shuts into was time move met) is = time
+          here (opens into closed time move why unmet forgot) is = clash closed (law .meets (rw is at (since .met)) .was-open)
 
-  pub exactly : (t .told (t .length) ≡ true) ↔ ((k : ℕ) × HeldSince t k)
+  pub exactly : (t .toldClosed (t .length) ≡ true) ↔ ((k : ℕ) × HeldSince t k)
   exactly = (λ closed. wide (held (t .length) (omega arith) closed), λ since. closed-since (t .length) (since .0) (omega arith) (narrow (since .1)))
     where
       wide : ((k : ℕ) × HeldIn (t .length) k) → (k : ℕ) × HeldSince t k

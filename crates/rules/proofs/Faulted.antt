@@ -7,9 +7,9 @@ use lib.Dec.{eqb, leb}
 use borrow.Author.Tests.{leb-true, eqb-false}
 use Rattle.units.specs.Range.{fromTo}
 use Rattle.units.proofs.LevelOrder.{and-parts}
-use Rattle.window.specs.Weighing.{Weighs}
+use Rattle.window.specs.Evaluation.{Evaluation}
 use Rattle.rules.specs.Accepted.{pairAt, unsettlesAt, afterEvent, accept}
-use Rattle.rules.specs.Calls.{Event, sample, limit, measure, fault, clear, tick, Heard, isFault}
+use Rattle.rules.specs.Calls.{Event, sample, limit, measure, fault, clear, tick, EvaluatedCall, isFault}
 use Rattle.rules.specs.Pairs.{Pair, bothDiodeBad}
 use Rattle.rules.specs.Refusals.{kindAllowed, argumentRefusal}
 use Rattle.rules.specs.Replay.{isAccepted}
@@ -53,30 +53,30 @@ kind-is kind e = go (eqb kind 3) (eqb kind 4) (eqb kind 5) refl refl refl
         absurd (omega (arith, leb-true 3 kind (ends .0), leb-true kind 5 (ends .1), eqb-false kind 3 p, eqb-false kind 4 q, eqb-false kind 5 r))
 
 -- faults 1 and 2 latched
-module _ (now : ℕ) (pair : Pair) (s : State) where
-  diode-latches : bothDiodeBad pair ≡ true → anyFault (latched now pair s) ≡ true
+module _ (time : ℕ) (pair : Pair) (s : State) where
+  diode-latches : bothDiodeBad pair ≡ true → anyFault (latched time pair s) ≡ true
   unfolding anyFault latched
   diode-latches e = first-of (s .faults .diode) (bothDiodeBad pair) _ e
 
-  current-latches : overCurrent now s ≡ true → anyFault (latched now pair s) ≡ true
+  current-latches : overCurrent time s ≡ true → anyFault (latched time pair s) ≡ true
   unfolding anyFault latched
-  current-latches e = second-of (s .faults .diode || bothDiodeBad pair) (s .faults .overcurrent) (overCurrent now s) _ e
+  current-latches e = second-of (s .faults .diode || bothDiodeBad pair) (s .faults .overcurrent) (overCurrent time s) _ e
 
 -- a fault call latches a fault
-kind-latches : (now : ℕ) (pair : Pair) (s : State) (event : Event Weighs) (f : Faults) → argumentRefusal event ≡ 0 → isFault event ≡ true
-    → s .faults ≡ faultsBy event f → anyFault (latched now pair s) ≡ true
+kind-latches : (time : ℕ) (pair : Pair) (s : State) (event : Event Evaluation) (f : Faults) → argumentRefusal event ≡ 0 → isFault event ≡ true
+    → s .faults ≡ faultsBy event f → anyFault (latched time pair s) ≡ true
 unfolding argumentRefusal faultsBy withKind anyFault latched overCurrent
-kind-latches now pair s (fault kind) f right is same =
+kind-latches time pair s (fault kind) f right is same =
     rw same
-    (any-of (f .diode || bothDiodeBad pair) (f .overcurrent || overCurrent now s) (f .residual) (f .welded) (f .temperature) _ _ _
+    (any-of (f .diode || bothDiodeBad pair) (f .overcurrent || overCurrent time s) (f .residual) (f .welded) (f .temperature) _ _ _
     (kind-is kind (not-refused (kindAllowed kind) 8 (omega arith) right)))
-kind-latches now pair s (sample window) f right is same = clash refl (sym is)
-kind-latches now pair s (limit given) f right is same = clash refl (sym is)
-kind-latches now pair s (measure line) f right is same = clash refl (sym is)
-kind-latches now pair s clear f right is same = clash refl (sym is)
-kind-latches now pair s tick f right is same = clash refl (sym is)
+kind-latches time pair s (sample window) f right is same = clash refl (sym is)
+kind-latches time pair s (limit given) f right is same = clash refl (sym is)
+kind-latches time pair s (measure line) f right is same = clash refl (sym is)
+kind-latches time pair s clear f right is same = clash refl (sym is)
+kind-latches time pair s tick f right is same = clash refl (sym is)
 
-pub unsettled-fault : (s : State) (call : Heard) → isAccepted s call ≡ true → unsettlesAt s call ≡ true → anyFault (accept s call .faults) ≡ true
+pub unsettled-fault : (s : State) (call : EvaluatedCall) → isAccepted s call ≡ true → unsettlesAt s call ≡ true → anyFault (accept s call .faults) ≡ true
 unfolding unsettles
 unsettled-fault s call into e = go (isFault (call .event)) (bothDiodeBad (pairAt s call)) (overCurrent (call .time) (afterEvent s call)) refl refl refl e
   where

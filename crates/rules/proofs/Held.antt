@@ -10,7 +10,7 @@ use Rattle.units.proofs.LevelOrder.{and-parts}
 use Rattle.pilot.specs.Bands.{bandC, bandD, noBand, ready}
 use Rattle.pilot.specs.declared.verdicts.Verdict.{Verdict}
 use Rattle.rules.specs.Accepted.{pairAt, unsettlesAt, causeAt, opensAt, closesAt, afterWave, accept}
-use Rattle.rules.specs.Calls.{Heard, isSample}
+use Rattle.rules.specs.Calls.{EvaluatedCall, isSample}
 use Rattle.rules.specs.Pairs.{Pair, verdict, paired, sameBand, inOneBand, bothUnsound}
 use Rattle.rules.specs.Replay.{isAccepted}
 use Rattle.rules.specs.State.{State, anyFault, setTo}
@@ -27,11 +27,11 @@ use Rattle.rules.proofs.Offering.{driven-offers}
 -- what an accepted call leaves closed
 pub record Closed (s : State) : Type 0 where
   pub no-fault : anyFault (s .faults) ≡ false
-  pub heard : s .sound .set ≡ true
+  pub evaluatedCall : s .sound .set ≡ true
   pub recent : s .last ≤ s .sound .time + 80
   pub ready-settled : ready (s .settled) (s .settings .ventilation) ≡ true
 
-module _ (s : State) (call : Heard) where
+module _ (s : State) (call : EvaluatedCall) where
   settled-is : unsettlesAt s call ≡ false → accept s call .settled ≡ settledBy (pairAt s call) (s .settled)
   settled-is e = ap (λ b. cond b 0 (settledBy (pairAt s call) (s .settled))) e
 
@@ -45,7 +45,7 @@ module _ (s : State) (call : Heard) where
       rw (all .pair .sampled, verdict-sound s (call .event) (all .pair .second-proven)) in
       record {
         no-fault = offer .0;
-        heard = ap (λ m. m .set) sound;
+        evaluatedCall = ap (λ m. m .set) sound;
         recent = rw sound (omega arith);
         ready-settled = settled (unsettlesAt s call) refl (all .pair) (offer .1 .state);
       }
@@ -124,7 +124,7 @@ band-fits pair this old in-band sound =
         ap fits (sym (same-band (old-verdict .band) (pair .this .band) (parts .1))) ∙ old (and-parts (pair .sampled) (pair .previous .kept) (parts .0) .1) p
     go false false p q f = clash refl (rw (parts .0, p, q) at f)
 
-module _ (s : State) (call : Heard) (into : isAccepted s call ≡ true)
+module _ (s : State) (call : EvaluatedCall) (into : isAccepted s call ≡ true)
     (old : s .previous .kept ≡ true → s .previous .verdict .sound ≡ true → fits (s .previous .verdict .band) ≡ true) where
   -- closed before the call, and not opened by it
   held-closed : ready (s .settled) (s .settings .ventilation) ≡ true → causeAt s call ≡ false → Closed (accept s call)
@@ -132,7 +132,7 @@ module _ (s : State) (call : Heard) (into : isAccepted s call ≡ true)
   held-closed before none =
       let calm = no-cause s call none in
       let sound = sound-recent s call (calm .two) in
-      record { no-fault = calm .five; heard = sound .0; recent = sound .1; ready-settled = settled (unsettlesAt s call) refl calm }
+      record { no-fault = calm .five; evaluatedCall = sound .0; recent = sound .1; ready-settled = settled (unsettlesAt s call) refl calm }
     where
       settled : (u : Bool) → unsettlesAt s call ≡ u → NoCause s call → ready (accept s call .settled) (s .settings .ventilation) ≡ true
       settled true p calm = clash (unsettled-fault s call into p) (calm .five)

@@ -11,7 +11,7 @@ use Rattle.rules.specs.Step5Closing.{closingsBy}
 use Rattle.rules.proofs.Booleans.{clash}
 
 -- what is kept before call k, beside what the claim speaks of
-pub record Kept : Type 0 where
+pub record Memory : Type 0 where
   pub last : ℕ → ℕ
   pub opening : ℕ → Moment
   pub previous : ℕ → Previous
@@ -22,63 +22,63 @@ pub record Kept : Type 0 where
 abbrev pub previousBy : Bool → Bool → Verdict → Previous → Previous
 previousBy forgets sampled verdict old = cond forgets forgotten (cond sampled (record { kept = true; verdict = verdict }) old)
 
-module _ (t : Trace) (kept : Kept) where
+module _ (t : Trace) (memory : Memory) where
   -- what a call shows that meets every closing condition
   pub record Meets (k : ℕ) : Type 0 where
-    pub was-open : t .told k ≡ false
+    pub was-open : t .toldClosed k ≡ false
     pub sampled : t .sampled k ≡ true
-    pub partner : kept .previous k .kept ≡ true
-    pub first-proven : kept .previous k .verdict .proven ≡ true
+    pub partner : memory .previous k .kept ≡ true
+    pub first-proven : memory .previous k .verdict .proven ≡ true
     pub second-proven : t .verdict k .proven ≡ true
-    pub one-band : kept .previous k .verdict .band ≡ t .verdict k .band
+    pub one-band : memory .previous k .verdict .band ≡ t .verdict k .band
     pub has-band : t .verdict k .band ≡ noBand → ⊥
-    pub rested : kept .opening k .set ≡ true → kept .opening k .time + t .pause k ≤ t .time k
+    pub rested : memory .opening k .set ≡ true → memory .opening k .time + t .pause k ≤ t .time k
 
   pub record Law (k : ℕ) : Type 0 where
-    pub told-next : t .told (suc k) ≡ cond (t .accepted k) ((t .told k && not (t .cause k)) || t .closes k) (t .told k)
+    pub told-next : t .toldClosed (suc k) ≡ cond (t .accepted k) ((t .toldClosed k && not (t .cause k)) || t .closes k) (t .toldClosed k)
     pub carried-next : t .carried (suc k) ≡ closingsBy (t .accepted k && t .closes k) (t .carried k)
-    pub last-next : kept .last (suc k) ≡ cond (t .accepted k) (t .time k) (kept .last k)
-    pub opening-next : kept .opening (suc k) ≡ cond (t .accepted k && (t .told k && t .cause k)) (setTo (t .time k)) (kept .opening k)
-    pub previous-next : kept .previous (suc k)
-        ≡ cond (t .accepted k) (previousBy (kept .forgets k) (t .sampled k) (t .verdict k) (kept .previous k)) (kept .previous k)
-    pub opening-forgets : t .told k ≡ true → t .cause k ≡ true → kept .forgets k ≡ true
+    pub last-next : memory .last (suc k) ≡ cond (t .accepted k) (t .time k) (memory .last k)
+    pub opening-next : memory .opening (suc k) ≡ cond (t .accepted k && (t .toldClosed k && t .cause k)) (setTo (t .time k)) (memory .opening k)
+    pub previous-next : memory .previous (suc k)
+        ≡ cond (t .accepted k) (previousBy (memory .forgets k) (t .sampled k) (t .verdict k) (memory .previous k)) (memory .previous k)
+    pub opening-forgets : t .toldClosed k ≡ true → t .cause k ≡ true → memory .forgets k ≡ true
     -- the clock
-    pub not-back : t .accepted k ≡ true → kept .last k ≤ t .time k
+    pub not-back : t .accepted k ≡ true → memory .last k ≤ t .time k
     pub not-late : t .accepted k ≡ true → t .time k ≤ largestTime
     pub meets : t .closes k ≡ true → Meets k
 
   pub record Lawful : Type 0 where
-    pub starts-open : t .told 0 ≡ false
+    pub starts-open : t .toldClosed 0 ≡ false
     pub starts-at-none : t .carried 0 ≡ 0
-    pub starts-alone : kept .previous 0 .kept ≡ false
+    pub starts-alone : memory .previous 0 .kept ≡ false
     pub each : (k : ℕ) → k < t .length → Law k
     pub pause-least : (k : ℕ) → k < t .length → 1000 ≤ t .pause k
 
   -- the four outcomes of a call
   pub data Outcome (k : ℕ) : Type 0 where
-    refused : t .accepted k ≡ false → t .told (suc k) ≡ t .told k → kept .opening (suc k) ≡ kept .opening k → Outcome k
-    stays : t .accepted k ≡ true → t .told (suc k) ≡ t .told k → kept .opening (suc k) ≡ kept .opening k
-        → (t .told k ≡ true → t .cause k ≡ false) → t .closes k ≡ false → Outcome k
-    shuts : t .accepted k ≡ true → t .told k ≡ false → t .told (suc k) ≡ true → kept .opening (suc k) ≡ kept .opening k
+    refused : t .accepted k ≡ false → t .toldClosed (suc k) ≡ t .toldClosed k → memory .opening (suc k) ≡ memory .opening k → Outcome k
+    stays : t .accepted k ≡ true → t .toldClosed (suc k) ≡ t .toldClosed k → memory .opening (suc k) ≡ memory .opening k
+        → (t .toldClosed k ≡ true → t .cause k ≡ false) → t .closes k ≡ false → Outcome k
+    shuts : t .accepted k ≡ true → t .toldClosed k ≡ false → t .toldClosed (suc k) ≡ true → memory .opening (suc k) ≡ memory .opening k
         → t .closes k ≡ true → Outcome k
-    opens : t .accepted k ≡ true → t .told k ≡ true → t .told (suc k) ≡ false → kept .opening (suc k) ≡ setTo (t .time k)
-        → t .cause k ≡ true → t .closes k ≡ false → kept .previous (suc k) .kept ≡ false → Outcome k
+    opens : t .accepted k ≡ true → t .toldClosed k ≡ true → t .toldClosed (suc k) ≡ false → memory .opening (suc k) ≡ setTo (t .time k)
+        → t .cause k ≡ true → t .closes k ≡ false → memory .previous (suc k) .kept ≡ false → Outcome k
 
   pub outcome : (k : ℕ) → Law k → Outcome k
-  outcome k law = go (t .accepted k) (t .told k) (t .cause k) (t .closes k) refl refl refl refl
+  outcome k law = go (t .accepted k) (t .toldClosed k) (t .cause k) (t .closes k) refl refl refl refl
     where
-      next : (a c r m : Bool) → t .accepted k ≡ a → t .told k ≡ c → t .cause k ≡ r → t .closes k ≡ m
-          → t .told (suc k) ≡ cond a ((c && not r) || m) c
+      next : (a c r m : Bool) → t .accepted k ≡ a → t .toldClosed k ≡ c → t .cause k ≡ r → t .closes k ≡ m
+          → t .toldClosed (suc k) ≡ cond a ((c && not r) || m) c
       next a c r m ea ec er em = law .told-next ∙ rw (ea, ec, er, em)
 
-      moved : (a c r : Bool) → t .accepted k ≡ a → t .told k ≡ c → t .cause k ≡ r
-          → kept .opening (suc k) ≡ cond (a && (c && r)) (setTo (t .time k)) (kept .opening k)
+      moved : (a c r : Bool) → t .accepted k ≡ a → t .toldClosed k ≡ c → t .cause k ≡ r
+          → memory .opening (suc k) ≡ cond (a && (c && r)) (setTo (t .time k)) (memory .opening k)
       moved a c r ea ec er = law .opening-next ∙ rw (ea, ec, er)
 
-      none-kept : t .accepted k ≡ true → kept .forgets k ≡ true → kept .previous (suc k) ≡ forgotten
+      none-kept : t .accepted k ≡ true → memory .forgets k ≡ true → memory .previous (suc k) ≡ forgotten
       none-kept into forgets = law .previous-next ∙ rw (into, forgets)
 
-      go : (a c r m : Bool) → t .accepted k ≡ a → t .told k ≡ c → t .cause k ≡ r → t .closes k ≡ m → Outcome k
+      go : (a c r m : Bool) → t .accepted k ≡ a → t .toldClosed k ≡ c → t .cause k ≡ r → t .closes k ≡ m → Outcome k
       go false c r m ea ec er em = refused ea (next false c r m ea ec er em ∙ sym ec) (moved false c r ea ec er)
       go true true true true ea ec er em = clash ec (law .meets em .was-open)
       go true true false true ea ec er em = clash ec (law .meets em .was-open)

@@ -10,7 +10,7 @@ use borrow.Author.Tests.{le-leb, ne-eqb}
 use Rattle.rules.specs.Accepted.{closesAt}
 use Rattle.rules.specs.Answer.{begun, acceptLent, next}
 use Rattle.rules.specs.Begin.{Begin, beginRefusal}
-use Rattle.rules.specs.Calls.{Call, Heard, inTurn}
+use Rattle.rules.specs.Calls.{Call, EvaluatedCall, inTurn}
 use Rattle.rules.specs.Claim.{Demand3}
 use Rattle.rules.specs.Lent.{Lent, mostClosings, altered, lentRefusal}
 use Rattle.rules.specs.Refusals.{refusal}
@@ -20,36 +20,36 @@ use Rattle.rules.specs.Step5Closing.{closingsBy}
 use Rattle.rules.specs.Traces.{before, callAt, traceOf, lentAt, replyBefore, answered}
 use Rattle.rules.proofs.Lists.{list-in-range}
 use Rattle.rules.proofs.Ranges.{range-whole}
-use Rattle.rules.proofs.Replayed.{keptOf, Follows, lawful, demand3-told}
+use Rattle.rules.proofs.Replayed.{memoryOf, Follows, lawful, demand3-told}
 use Rattle.rules.proofs.Stepped.{before-next, step-by}
 use Rattle.rules.proofs.Turns.{turn-next}
 use Rattle.rules.proofs.Spacing.{at-most, counts}
 
 -- a controller that was not altered is refused what the table refuses
-pub lent-refusal : (lent : Lent) (call : Heard) → altered lent ≡ false → lentRefusal lent call ≡ refusal (lent .kept) call
+pub lent-refusal : (lent : Lent) (call : EvaluatedCall) → altered lent ≡ false → lentRefusal lent call ≡ refusal (lent .state) call
 unfolding lentRefusal refusal
 lent-refusal lent call e = rw e
 
-next-by : (lent : Lent) (call : Heard) (a : Bool) → eqb (lentRefusal lent call) 0 ≡ a → next lent call ≡ cond a (acceptLent lent call) lent
+next-by : (lent : Lent) (call : EvaluatedCall) (a : Bool) → eqb (lentRefusal lent call) 0 ≡ a → next lent call ≡ cond a (acceptLent lent call) lent
 unfolding next
 next-by lent call a e = ap (λ b. cond b (acceptLent lent call) lent) e
 
 -- a refused call leaves the lent controller as it is
-pub refused-next : (lent : Lent) (call : Heard) → (lentRefusal lent call ≡ 0 → ⊥) → next lent call ≡ lent
+pub refused-next : (lent : Lent) (call : EvaluatedCall) → (lentRefusal lent call ≡ 0 → ⊥) → next lent call ≡ lent
 refused-next lent call refused = next-by lent call false (ne-eqb (lentRefusal lent call) 0 refused)
 
 -- then it goes on as the replay does, and counts the closings
-next-follows : (s : State) (n : ℕ) (call : Heard) → altered (record { kept = s; closings = n }) ≡ false
-    → next (record { kept = s; closings = n }) call
-    ≡ record { kept = step s call; closings = closingsBy (isAccepted s call && closesAt s call) n }
+next-follows : (s : State) (n : ℕ) (call : EvaluatedCall) → altered (record { state = s; closings = n }) ≡ false
+    → next (record { state = s; closings = n }) call
+    ≡ record { state = step s call; closings = closingsBy (isAccepted s call && closesAt s call) n }
 unfolding closingsBy
 next-follows s n call same = go (isAccepted s call) refl
   where
     lent : Lent
-    lent = record { kept = s; closings = n }
+    lent = record { state = s; closings = n }
 
     go : (a : Bool) → isAccepted s call ≡ a
-        → next lent call ≡ record { kept = step s call; closings = closingsBy (isAccepted s call && closesAt s call) n }
+        → next lent call ≡ record { state = step s call; closings = closingsBy (isAccepted s call && closesAt s call) n }
     go true into =
         next-by lent call true (ap (λ r. eqb r 0) (lent-refusal lent call same) ∙ into)
         ∙ rw (step-by s call true into, into)
@@ -69,45 +69,45 @@ module _ (begin : Begin) (calls : List Call) (accepted : beginRefusal begin ≡ 
   tally-most : (k : ℕ) → k ≤ length calls → tally k ≤ mostClosings
   tally-most k within =
       let laws = lawful begin calls _ tally by-replay accepted in
-      rw (counts (traceOf begin calls (λ k. before begin calls k .closed) tally) (keptOf begin calls) laws k within)
-      (at-most (traceOf begin calls (λ k. before begin calls k .closed) tally) (keptOf begin calls) laws k within)
+      rw (counts (traceOf begin calls (λ k. before begin calls k .closed) tally) (memoryOf begin calls) laws k within)
+      (at-most (traceOf begin calls (λ k. before begin calls k .closed) tally) (memoryOf begin calls) laws k within)
 
   -- no list leads to a controller that refusal 1 names
-  pub tally-not-altered : (k : ℕ) → k ≤ length calls → altered (record { kept = before begin calls k; closings = tally k }) ≡ false
+  pub tally-not-altered : (k : ℕ) → k ≤ length calls → altered (record { state = before begin calls k; closings = tally k }) ≡ false
   unfolding altered
   tally-not-altered k within =
       rw (range-whole (before begin calls k) (list-in-range begin (take k calls) accepted), le-leb (tally k) mostClosings (tally-most k within))
 
-  pub lent-is : (k : ℕ) → k ≤ length calls → lentAt begin calls k ≡ record { kept = before begin calls k; closings = tally k }
+  pub lent-is : (k : ℕ) → k ≤ length calls → lentAt begin calls k ≡ record { state = before begin calls k; closings = tally k }
   unfolding replay inTurn
   lent-is zero within = refl
   lent-is (suc k) within =
       turn-next next (begun begin) calls k within
       ∙ ap (λ l. next l (callAt begin calls k)) (lent-is k (omega arith))
       ∙ next-follows (before begin calls k) (tally k) (callAt begin calls k) (tally-not-altered k (omega arith))
-      ∙ ap (λ s. record { kept = s; closings = tally (suc k) }) (sym (before-next begin calls k within))
+      ∙ ap (λ s. record { state = s; closings = tally (suc k) }) (sym (before-next begin calls k within))
 
   -- what a reply tells before call k is what the lent controller holds
   pub reply-is : {A : Type 0} (f : Lent → A) (g : ℕ → A) → g 0 ≡ f (begun begin)
       → ((k : ℕ) → g (suc k) ≡ f (next (lentAt begin calls k) (callAt begin calls k))) → (k : ℕ) → k ≤ length calls
-      → g k ≡ f (record { kept = before begin calls k; closings = tally k })
+      → g k ≡ f (record { state = before begin calls k; closings = tally k })
   unfolding replay inTurn
   reply-is f g first later zero within = first
   reply-is f g first later (suc k) within = later k ∙ ap f (sym (turn-next next (begun begin) calls k within) ∙ lent-is (suc k) within)
 
   pub contactor-told : (k : ℕ) → k ≤ length calls → replyBefore begin calls k .closed ≡ before begin calls k .closed
-  contactor-told = reply-is (λ l. l .kept .closed) (λ k. replyBefore begin calls k .closed) refl (λ k. refl)
+  contactor-told = reply-is (λ l. l .state .closed) (λ k. replyBefore begin calls k .closed) refl (λ k. refl)
 
   pub closings-told : (k : ℕ) → k ≤ length calls → replyBefore begin calls k .closings ≡ tally k
   closings-told = reply-is (λ l. l .closings) (λ k. replyBefore begin calls k .closings) refl (λ k. refl)
 
   -- demand 3, of any contactor and count that these replies tell
-  pub demand3-replied : (told : ℕ → Bool) (carried : ℕ → ℕ)
-      → ((k : ℕ) → k ≤ length calls → told k ≡ replyBefore begin calls k .closed)
+  pub demand3-replied : (toldClosed : ℕ → Bool) (carried : ℕ → ℕ)
+      → ((k : ℕ) → k ≤ length calls → toldClosed k ≡ replyBefore begin calls k .closed)
       → ((k : ℕ) → k ≤ length calls → carried k ≡ replyBefore begin calls k .closings)
-      → Demand3 (traceOf begin calls told carried)
-  demand3-replied told carried tells counts =
-      demand3-told begin calls told carried
+      → Demand3 (traceOf begin calls toldClosed carried)
+  demand3-replied toldClosed carried tells counts =
+      demand3-told begin calls toldClosed carried
       (record {
         told-is = λ k within. tells k within ∙ contactor-told k within;
         carried-none = counts 0 (omega arith);

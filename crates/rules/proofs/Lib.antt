@@ -23,13 +23,8 @@ pub mod Held
 pub mod Reaching
 pub mod Every20
 pub mod EveryList
-pub mod Squares
-pub mod Sequences
-pub mod BenchRows
-pub mod OtherRows
-pub mod StateRows
-pub mod RangeRows
 pub mod Altered
 pub mod RefusalsAre
 pub mod BeginRefusals
 pub mod Apart
+pub mod rows

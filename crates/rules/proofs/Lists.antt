@@ -6,7 +6,7 @@ use Rattle.units.specs.Range.{fromTo}
 use Rattle.units.specs.Wave.{driven}
 use Rattle.rules.specs.Accepted.{accept}
 use Rattle.rules.specs.Begin.{Begin, beginRefusal, fresh}
-use Rattle.rules.specs.Calls.{Call, Heard, heard, inTurn}
+use Rattle.rules.specs.Calls.{Call, EvaluatedCall, evaluatedCall, inTurn}
 use Rattle.rules.specs.Lent.{waveAllowed, storedAllowed}
 use Rattle.rules.specs.Refusals.{limitAllowed}
 use Rattle.rules.specs.Replay.{isAccepted, step, replay}
@@ -15,8 +15,8 @@ use Rattle.rules.proofs.Acceptance.{begins}
 use Rattle.rules.proofs.Ranges.{InRange, range-kept}
 use Rattle.rules.proofs.Stepped.{step-by}
 
-module _ (Holds : State → Type 0) (keeps : (s : State) (call : Heard) → isAccepted s call ≡ true → Holds s → Holds (accept s call)) where
-  pub step-keeps : (s : State) (call : Heard) → Holds s → Holds (step s call)
+module _ (Holds : State → Type 0) (keeps : (s : State) (call : EvaluatedCall) → isAccepted s call ≡ true → Holds s → Holds (accept s call)) where
+  pub step-keeps : (s : State) (call : EvaluatedCall) → Holds s → Holds (step s call)
   step-keeps s call holds = go (isAccepted s call) refl
     where
       go : (a : Bool) → isAccepted s call ≡ a → Holds (step s call)
@@ -26,7 +26,7 @@ module _ (Holds : State → Type 0) (keeps : (s : State) (call : Heard) → isAc
   pub after-keeps : (s : State) (calls : List Call) → Holds s → Holds (inTurn step s calls)
   unfolding inTurn
   after-keeps s [] holds = holds
-  after-keeps s (call ∷ calls) holds = after-keeps (step s (heard call)) calls (step-keeps s (heard call) holds)
+  after-keeps s (call ∷ calls) holds = after-keeps (step s (evaluatedCall call)) calls (step-keeps s (evaluatedCall call) holds)
 
   pub replay-keeps : (begin : Begin) (calls : List Call) → Holds (fresh begin) → Holds (replay begin calls)
   unfolding replay

@@ -11,7 +11,7 @@ use Rattle.units.specs.Wave.{driven}
 use Rattle.duty.specs.DutyFor.{IsGreatest}
 use Rattle.pilot.specs.Bands.{bandA, bandB, bandC, bandD, bandE, ready}
 use Rattle.rules.specs.Accepted.{afterLatch, accept}
-use Rattle.rules.specs.Calls.{fault, Heard}
+use Rattle.rules.specs.Calls.{fault, EvaluatedCall}
 use Rattle.rules.specs.State.{State, anyFault}
 use Rattle.rules.specs.Step3Wave.{steadyLow, steadyHigh, isLetter, isUAE, available}
 use Rattle.rules.proofs.Booleans.{clash}
@@ -49,7 +49,7 @@ offered settled ventilation state plain =
         absurd (omega arith)
 
 -- the wave of an accepted call, and what it tells
-module _ (s : State) (call : Heard) where
+module _ (s : State) (call : EvaluatedCall) where
   pub wave-low-exactly : (accept s call .wave ≡ steadyLow) ↔ (anyFault (accept s call .faults) ≡ true)
   unfolding driven fromTo
   wave-low-exactly = (λ is. to (wave-is (afterLatch s call)) is, λ fault. from (wave-is (afterLatch s call)) fault)

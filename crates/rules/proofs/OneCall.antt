@@ -9,7 +9,7 @@ use Rattle.units.specs.Wave.{driven}
 use Rattle.units.proofs.LevelOrder.{and-parts}
 use Rattle.pilot.specs.Bands.{noBand}
 use Rattle.rules.specs.Accepted.{pairAt, unsettlesAt, causeAt, opensAt, closesAt, afterOpening, accept}
-use Rattle.rules.specs.Calls.{Heard, isSample}
+use Rattle.rules.specs.Calls.{EvaluatedCall, isSample}
 use Rattle.rules.specs.Pairs.{Pair, verdict, paired, sameBand, inOneBand, bothProven}
 use Rattle.rules.specs.State.{State, Moment, setTo}
 use Rattle.rules.specs.Step4Opening.{opens}
@@ -17,7 +17,7 @@ use Rattle.rules.specs.Step5Closing.{rested, closes}
 use Rattle.rules.proofs.Booleans.{clash}
 use Rattle.rules.proofs.Lawful.{previousBy}
 
-module _ (s : State) (call : Heard) where
+module _ (s : State) (call : EvaluatedCall) where
   pub closed-next : accept s call .closed ≡ ((s .closed && not (causeAt s call)) || closesAt s call)
   unfolding opens
   closed-next = ap (λ b. b || closesAt s call) (go (s .closed) (causeAt s call))
@@ -112,13 +112,13 @@ proven-exactly pair = (λ holds. to holds, λ known. from known)
 
 -- the closing conditions: the contactor was open before the call, and so neither closed nor opened by it; the wave is driven; two proven samples in
 -- one band; and the pause, if there was an opening
-pub record MeetsAll (s : State) (call : Heard) : Type 0 where
+pub record MeetsAll (s : State) (call : EvaluatedCall) : Type 0 where
   pub was-open : s .closed ≡ false
   pub driven-wave : driven (accept s call .wave) ≡ true
   pub pair : ProvenPair (pairAt s call)
   pub rests : s .opening .set ≡ true → s .opening .time + s .settings .pause ≤ call .time
 
-module _ (s : State) (call : Heard) where
+module _ (s : State) (call : EvaluatedCall) where
   not-opened : s .closed ≡ false → opensAt s call ≡ false
   unfolding opens
   not-opened was = ap (λ b. b && causeAt s call) was

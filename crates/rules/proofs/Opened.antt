@@ -3,9 +3,9 @@ use mathlib.Core.Path.{_≡_, refl, sym, _∙_, ap}
 use mathlib.Core.Bool.{Bool, true, false, _&&_, _||_, not, cond}
 use Prim.Native.Nat.{ℕ}
 use Rattle.units.specs.Wave.{driven}
-use Rattle.window.specs.Weighing.{Weighs}
+use Rattle.window.specs.Evaluation.{Evaluation}
 use Rattle.rules.specs.Accepted.{opensAt, closesAt, afterLatch, afterWave, accept}
-use Rattle.rules.specs.Calls.{Event, sample, limit, measure, fault, clear, tick, Heard}
+use Rattle.rules.specs.Calls.{Event, sample, limit, measure, fault, clear, tick, EvaluatedCall}
 use Rattle.rules.specs.State.{State, Moment, empty}
 use Rattle.rules.specs.Step1Event.{overrunAt, overrunBy}
 use Rattle.rules.specs.Step3Wave.{waveFor, overrunUnder, stopUnder}
@@ -16,8 +16,8 @@ either-unset : (b : Bool) (m n : Moment) → m .set ≡ false → n .set ≡ fal
 either-unset true m n p q = p
 either-unset false m n p q = q
 
-module _ (s : State) (now : ℕ) (was : s .closed ≡ false) where
-  overrun-open : (event : Event Weighs) → overrunBy now event s ≡ s .overrun
+module _ (s : State) (time : ℕ) (was : s .closed ≡ false) where
+  overrun-open : (event : Event Evaluation) → overrunBy time event s ≡ s .overrun
   unfolding overrunBy overrunAt
   overrun-open (sample window) = refl
   overrun-open (limit given) = refl
@@ -26,12 +26,12 @@ module _ (s : State) (now : ℕ) (was : s .closed ≡ false) where
   overrun-open clear = refl
   overrun-open tick = refl
 
-  stop-open : (wave : ℕ) → s .stop .set ≡ false → stopUnder now wave (s .closed) (s .stop) .set ≡ false
+  stop-open : (wave : ℕ) → s .stop .set ≡ false → stopUnder time wave (s .closed) (s .stop) .set ≡ false
   unfolding stopUnder
   stop-open wave none = rw was (either-unset (driven wave) empty (s .stop) refl none)
 
 -- an open contactor was opened by this call, or was open before it
-module _ (s : State) (call : Heard) where
+module _ (s : State) (call : EvaluatedCall) where
   data StaysOpen : Type 0 where
     by-call : opensAt s call ≡ true → StaysOpen
     from-before : opensAt s call ≡ false → s .closed ≡ false → StaysOpen

@@ -9,10 +9,10 @@ use borrow.Author.Tests.{leb-true, le-leb}
 use Rattle.units.specs.Range.{fromTo}
 use Rattle.units.specs.Wave.{driven}
 use Rattle.units.proofs.LevelOrder.{and-parts}
-use Rattle.window.specs.Weighing.{Weighs}
+use Rattle.window.specs.Evaluation.{Evaluation}
 use Rattle.rules.specs.Accepted.{pairAt, opensAt, afterLatch, afterWave, accept}
 use Rattle.rules.specs.Begin.{ratedAllowed, pauseAllowed}
-use Rattle.rules.specs.Calls.{Event, sample, limit, measure, fault, clear, tick, Heard}
+use Rattle.rules.specs.Calls.{Event, sample, limit, measure, fault, clear, tick, EvaluatedCall}
 use Rattle.rules.specs.Lent.{waveAllowed, storedAllowed, timesAllowed, inRange}
 use Rattle.rules.specs.Refusals.{limitAllowed, argumentRefusal}
 use Rattle.rules.specs.Replay.{isAccepted}
@@ -66,32 +66,32 @@ unfolding inRange timesAllowed
 range-whole s p = rw (p .wave, p .limit, p .rated, p .pause, p .sound, p .opening, p .overrun, p .stop)
 
 -- stored times that are not above the call's
-module _ (now : ℕ) where
-  none-stored : storedAllowed now empty ≡ true
+module _ (time : ℕ) where
+  none-stored : storedAllowed time empty ≡ true
   unfolding storedAllowed
   none-stored = refl
 
-  now-stored : storedAllowed now (setTo now) ≡ true
+  now-stored : storedAllowed time (setTo time) ≡ true
   unfolding storedAllowed
-  now-stored = le-leb now now (le-refl now)
+  now-stored = le-leb time time (le-refl time)
 
-  either-stored : (b : Bool) (m n : Moment) → storedAllowed now m ≡ true → storedAllowed now n ≡ true → storedAllowed now (cond b m n) ≡ true
+  either-stored : (b : Bool) (m n : Moment) → storedAllowed time m ≡ true → storedAllowed time n ≡ true → storedAllowed time (cond b m n) ≡ true
   either-stored true m n p q = p
   either-stored false m n p q = q
 
-  started-stored : (m : Moment) → storedAllowed now m ≡ true → storedAllowed now (startedBy now m) ≡ true
-  started-stored m p = either-stored (m .set) m (setTo now) p now-stored
+  started-stored : (m : Moment) → storedAllowed time m ≡ true → storedAllowed time (startedBy time m) ≡ true
+  started-stored m p = either-stored (m .set) m (setTo time) p now-stored
 
-  later-stored : (last : ℕ) (m : Moment) → last ≤ now → storedAllowed last m ≡ true → storedAllowed now m ≡ true
+  later-stored : (last : ℕ) (m : Moment) → last ≤ time → storedAllowed last m ≡ true → storedAllowed time m ≡ true
   unfolding storedAllowed
   later-stored last m past e = go (m .set) e
     where
-      go : (b : Bool) → not b || leb (m .time) last ≡ true → not b || leb (m .time) now ≡ true
-      go true f = le-leb (m .time) now (omega (arith, leb-true (m .time) last f))
+      go : (b : Bool) → not b || leb (m .time) last ≡ true → not b || leb (m .time) time ≡ true
+      go true f = le-leb (m .time) time (omega (arith, leb-true (m .time) last f))
       go false f = refl
 
-module _ (s : State) (call : Heard) where
-  overrun-stored : (event : Event Weighs) → storedAllowed (call .time) (s .overrun) ≡ true
+module _ (s : State) (call : EvaluatedCall) where
+  overrun-stored : (event : Event Evaluation) → storedAllowed (call .time) (s .overrun) ≡ true
       → storedAllowed (call .time) (overrunBy (call .time) event s) ≡ true
   unfolding overrunBy overrunAt
   overrun-stored (sample window) p = p
@@ -103,7 +103,7 @@ module _ (s : State) (call : Heard) where
   overrun-stored clear p = p
   overrun-stored tick p = p
 
-  limit-right : (event : Event Weighs) → argumentRefusal event ≡ 0 → limitAllowed (s .limit) ≡ true → limitAllowed (limitBy event (s .limit)) ≡ true
+  limit-right : (event : Event Evaluation) → argumentRefusal event ≡ 0 → limitAllowed (s .limit) ≡ true → limitAllowed (limitBy event (s .limit)) ≡ true
   unfolding limitBy argumentRefusal
   limit-right (sample window) e p = p
   limit-right (limit given) e p = not-refused (limitAllowed given) 7 (omega arith) e
@@ -116,26 +116,26 @@ module _ (s : State) (call : Heard) where
   pub range-kept : isAccepted s call ≡ true → InRange s → InRange (accept s call)
   unfolding soundBy overrunUnder stopUnder
   range-kept into was =
-      let now = call .time in
+      let time = call .time in
       let past = on-time s call into .0 in
-      let sound = later-stored now (s .last) (s .sound) past (was .sound) in
-      let opening = later-stored now (s .last) (s .opening) past (was .opening) in
-      let overrun = overrun-stored (call .event) (later-stored now (s .last) (s .overrun) past (was .overrun)) in
-      let stop = later-stored now (s .last) (s .stop) past (was .stop) in
+      let sound = later-stored time (s .last) (s .sound) past (was .sound) in
+      let opening = later-stored time (s .last) (s .opening) past (was .opening) in
+      let overrun = overrun-stored (call .event) (later-stored time (s .last) (s .overrun) past (was .overrun)) in
+      let stop = later-stored time (s .last) (s .stop) past (was .stop) in
       let wave = waveFor (afterLatch s call) in
       record {
         wave = wave-allowed (afterLatch s call);
         limit = limit-right (call .event) (arguments-right s call into) (was .limit);
         rated = was .rated;
         pause = was .pause;
-        sound = either-stored now (pairAt s call .sampled && pairAt s call .this .sound) (setTo now) (s .sound) (now-stored now) sound;
-        opening = either-stored now (opensAt s call) (setTo now) (s .opening) (now-stored now) opening;
-        overrun = either-stored now (opensAt s call) empty (afterWave s call .overrun) (none-stored now)
-            (either-stored now (driven wave) (overrunBy now (call .event) s) empty overrun (none-stored now));
-        stop = either-stored now (opensAt s call) empty (afterWave s call .stop) (none-stored now) (stop-stored now wave stop);
+        sound = either-stored time (pairAt s call .sampled && pairAt s call .this .sound) (setTo time) (s .sound) (now-stored time) sound;
+        opening = either-stored time (opensAt s call) (setTo time) (s .opening) (now-stored time) opening;
+        overrun = either-stored time (opensAt s call) empty (afterWave s call .overrun) (none-stored time)
+            (either-stored time (driven wave) (overrunBy time (call .event) s) empty overrun (none-stored time));
+        stop = either-stored time (opensAt s call) empty (afterWave s call .stop) (none-stored time) (stop-stored time wave stop);
       }
     where
-      stop-stored : (now wave : ℕ) → storedAllowed now (s .stop) ≡ true → storedAllowed now (stopUnder now wave (s .closed) (s .stop)) ≡ true
-      stop-stored now wave p =
-          either-stored now (s .closed && eqb wave steadyHigh) (startedBy now (s .stop)) _ (started-stored now (s .stop) p)
-          (either-stored now (driven wave) empty (s .stop) (none-stored now) p)
+      stop-stored : (time wave : ℕ) → storedAllowed time (s .stop) ≡ true → storedAllowed time (stopUnder time wave (s .closed) (s .stop)) ≡ true
+      stop-stored time wave p =
+          either-stored time (s .closed && eqb wave steadyHigh) (startedBy time (s .stop)) _ (started-stored time (s .stop) p)
+          (either-stored time (driven wave) empty (s .stop) (none-stored time) p)

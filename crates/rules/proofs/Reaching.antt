@@ -8,7 +8,7 @@ use Rattle.units.specs.Range.{fromTo}
 use Rattle.units.specs.Wave.{driven}
 use Rattle.rules.specs.Accepted.{accept}
 use Rattle.rules.specs.Begin.{Begin, fresh}
-use Rattle.rules.specs.Calls.{Call, Heard}
+use Rattle.rules.specs.Calls.{Call, EvaluatedCall}
 use Rattle.rules.specs.EveryList.{Reached}
 use Rattle.rules.specs.Pairs.{verdict}
 use Rattle.rules.specs.Replay.{isAccepted, replay}
@@ -26,7 +26,7 @@ pub record Steady (s : State) : Type 0 where
   pub reached : Reached s
   pub previous : s .previous .kept ≡ true → s .previous .verdict .sound ≡ true → fits (s .previous .verdict .band) ≡ true
 
-pub steady-kept : (s : State) (call : Heard) → isAccepted s call ≡ true → Steady s → Steady (accept s call)
+pub steady-kept : (s : State) (call : EvaluatedCall) → isAccepted s call ≡ true → Steady s → Steady (accept s call)
 unfolding available unventilatedD
 steady-kept s call into was =
     let before = was .reached in
@@ -46,7 +46,7 @@ steady-kept s call into was =
         overrun-closed = λ e. runs (accept s call .closed) refl e;
         overrun-driven = runs-driven s call;
         closed-no-fault = λ e. closed e .no-fault;
-        closed-heard = λ e. closed e .heard;
+        closed-sampled = λ e. closed e .evaluatedCall;
         closed-sound = λ e. closed e .recent;
         closed-ready = λ e. closed e .ready-settled;
       };
@@ -73,7 +73,7 @@ fresh-steady begin =
         overrun-closed = λ e. clash refl (sym e);
         overrun-driven = λ e. clash refl (sym e);
         closed-no-fault = λ e. refl;
-        closed-heard = λ e. clash refl (sym e);
+        closed-sampled = λ e. clash refl (sym e);
         closed-sound = λ e. clash refl (sym e);
         closed-ready = λ e. clash refl (sym e);
       };

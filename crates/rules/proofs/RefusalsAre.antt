@@ -10,10 +10,10 @@ use lib.IntN.{ℤ}
 use borrow.Author.Tests.{ltb-true, ltb-false, leb-false, lt-leb}
 use Rattle.units.specs.Range.{fromTo, Outside}
 use Rattle.units.proofs.FromTo.{outside-exactly}
-use Rattle.window.specs.Weighing.{Weighs, levels, refused, weighing}
+use Rattle.window.specs.Evaluation.{Evaluation, levels, refused, evaluate}
 use Rattle.window.proofs.Laws.{refused-exactly}
 use Rattle.rules.specs.Begin.{largestTime}
-use Rattle.rules.specs.Calls.{Event, Call, sample, limit, measure, fault, clear, tick, weighed, heard}
+use Rattle.rules.specs.Calls.{Event, Call, sample, limit, measure, fault, clear, tick, evaluated, evaluatedCall}
 use Rattle.rules.specs.Lent.{Lent, altered, lentRefusal}
 use Rattle.rules.specs.RefusalsAre.{Altered, OnTime, Judged, WrongFor, RefusedBy}
 use Rattle.rules.specs.Refusals.{orElse, timeRefusal, windowRefusal, kindAllowed, limitAllowed, measureAllowed, argumentRefusal}
@@ -25,24 +25,24 @@ abbrev first : Bool → Bool → Bool → ℕ → ℕ
 first late early changed number = orElse (cond late 3 (cond early 2 0)) (orElse (cond changed 1 0) number)
 
 pub data Way (lent : Lent) (call : Call) : Type 0 where
-  late : lentRefusal lent (heard call) ≡ 3 → largestTime < call .time → Way lent call
-  early : lentRefusal lent (heard call) ≡ 2 → call .time ≤ largestTime → call .time < lent .kept .last → Way lent call
-  changed : lentRefusal lent (heard call) ≡ 1 → OnTime lent call → Altered lent → Way lent call
-  judged : lentRefusal lent (heard call) ≡ argumentRefusal (weighed (call .event)) → Judged lent call → Way lent call
+  late : lentRefusal lent (evaluatedCall call) ≡ 3 → largestTime < call .time → Way lent call
+  early : lentRefusal lent (evaluatedCall call) ≡ 2 → call .time ≤ largestTime → call .time < lent .state .last → Way lent call
+  changed : lentRefusal lent (evaluatedCall call) ≡ 1 → OnTime lent call → Altered lent → Way lent call
+  judged : lentRefusal lent (evaluatedCall call) ≡ argumentRefusal (evaluated (call .event)) → Judged lent call → Way lent call
 
 way : (lent : Lent) (call : Call) → Way lent call
 unfolding lentRefusal timeRefusal
-way lent call = go (ltb largestTime (call .time)) (ltb (call .time) (lent .kept .last)) (altered lent) refl refl refl
+way lent call = go (ltb largestTime (call .time)) (ltb (call .time) (lent .state .last)) (altered lent) refl refl refl
   where
-    is : (a b c : Bool) → ltb largestTime (call .time) ≡ a → ltb (call .time) (lent .kept .last) ≡ b → altered lent ≡ c
-        → lentRefusal lent (heard call) ≡ first a b c (argumentRefusal (weighed (call .event)))
+    is : (a b c : Bool) → ltb largestTime (call .time) ≡ a → ltb (call .time) (lent .state .last) ≡ b → altered lent ≡ c
+        → lentRefusal lent (evaluatedCall call) ≡ first a b c (argumentRefusal (evaluated (call .event)))
     is a b c p q r = rw (p, q, r)
 
-    go : (a b c : Bool) → ltb largestTime (call .time) ≡ a → ltb (call .time) (lent .kept .last) ≡ b → altered lent ≡ c → Way lent call
+    go : (a b c : Bool) → ltb largestTime (call .time) ≡ a → ltb (call .time) (lent .state .last) ≡ b → altered lent ≡ c → Way lent call
     go true b c p q r = late (is true b c p q r) (ltb-true largestTime (call .time) p)
     go false true c p q r =
-        early (is false true c p q r) (ltb-false largestTime (call .time) p) (ltb-true (call .time) (lent .kept .last) q)
-    go false false c p q r = by c r (ltb-false largestTime (call .time) p, ltb-false (call .time) (lent .kept .last) q)
+        early (is false true c p q r) (ltb-false largestTime (call .time) p) (ltb-true (call .time) (lent .state .last) q)
+    go false false c p q r = by c r (ltb-false largestTime (call .time) p, ltb-false (call .time) (lent .state .last) q)
       where
         by : (c : Bool) → altered lent ≡ c → OnTime lent call → Way lent call
         by true r on-time = changed (is false false true p q r) on-time (altered-exactly lent .0 r)
@@ -56,16 +56,16 @@ refused-if false number n Wrong means big = (λ e. (sym e, means .0 refl), λ e.
 above-exactly : (current most : ℕ) → (leb current most ≡ false) ↔ (most < current)
 above-exactly current most = (leb-false current most, lt-leb current most)
 
-refused-with : (w : Weighs) (n : ℕ) → 4 ≤ n → (windowRefusal w ≡ n) ↔ (w ≡ refused n)
+refused-with : (w : Evaluation) (n : ℕ) → 4 ≤ n → (windowRefusal w ≡ n) ↔ (w ≡ refused n)
 refused-with (levels high low) n big = (λ e. absurd (omega arith), λ e. ap windowRefusal e)
 refused-with (refused number) n big = (λ e. ap refused e, λ e. ap windowRefusal e)
 
 -- the arguments' refusal, number by number
-arguments : (event : Event (List ℤ)) (n : ℕ) → 4 ≤ n → (argumentRefusal (weighed event) ≡ n) ↔ WrongFor n event
-unfolding weighed argumentRefusal limitAllowed measureAllowed kindAllowed
+arguments : (event : Event (List ℤ)) (n : ℕ) → 4 ≤ n → (argumentRefusal (evaluated event) ≡ n) ↔ WrongFor n event
+unfolding evaluated argumentRefusal limitAllowed measureAllowed kindAllowed
 arguments (sample window) n big = (
-  λ e. refused-exactly window n .0 (refused-with (weighing window) n big .0 e),
-  λ wrong. refused-with (weighing window) n big .1 (refused-exactly window n .1 wrong),
+  λ e. refused-exactly window n .0 (refused-with (evaluate window) n big .0 e),
+  λ wrong. refused-with (evaluate window) n big .1 (refused-exactly window n .1 wrong),
 )
 arguments (limit current) n big = refused-if (leb current 80000) 7 n (80000 < current) (above-exactly current 80000) big
 arguments (measure current) n big = refused-if (leb current 200000) 7 n (200000 < current) (above-exactly current 200000) big
@@ -91,13 +91,13 @@ wrong-number (fault kind) n (is, out) = (omega arith, omega arith)
 wrong-number clear n none = absurd none
 wrong-number tick n none = absurd none
 
-window-number : (window : List ℤ) (w : Weighs) → weighing window ≡ w → Known (windowRefusal w)
+window-number : (window : List ℤ) (w : Evaluation) → evaluate window ≡ w → Known (windowRefusal w)
 window-number window (levels high low) e = inl refl
 window-number window (refused number) e = inr (wrong-number (sample window) number (refused-exactly window number .0 e))
 
-argument-number : (event : Event (List ℤ)) → Known (argumentRefusal (weighed event))
-unfolding weighed argumentRefusal
-argument-number (sample window) = window-number window (weighing window) refl
+argument-number : (event : Event (List ℤ)) → Known (argumentRefusal (evaluated event))
+unfolding evaluated argumentRefusal
+argument-number (sample window) = window-number window (evaluate window) refl
 argument-number (limit current) = known-if (limitAllowed current) 7 (omega arith) (omega arith)
 argument-number (measure current) = known-if (measureAllowed current) 7 (omega arith) (omega arith)
 argument-number (fault kind) = known-if (kindAllowed kind) 8 (omega arith) (omega arith)
@@ -106,15 +106,15 @@ argument-number tick = inl refl
 
 module _ (lent : Lent) (call : Call) where
   -- a number from 1 to 3 is not that of the arguments
-  not-judged : {X : Type 0} (n : ℕ) → 1 ≤ n → n ≤ 3 → lentRefusal lent (heard call) ≡ n
-      → lentRefusal lent (heard call) ≡ argumentRefusal (weighed (call .event)) → X
+  not-judged : {X : Type 0} (n : ℕ) → 1 ≤ n → n ≤ 3 → lentRefusal lent (evaluatedCall call) ≡ n
+      → lentRefusal lent (evaluatedCall call) ≡ argumentRefusal (evaluated (call .event)) → X
   not-judged {X} n some few is same = go (argument-number (call .event))
     where
-      go : Known (argumentRefusal (weighed (call .event))) → X
+      go : Known (argumentRefusal (evaluated (call .event))) → X
       go (inl none) = absurd (omega arith)
       go (inr big) = absurd (omega (arith, big .0))
 
-  pub refused-by : RefusedBy lent call (lentRefusal lent (heard call))
+  pub refused-by : RefusedBy lent call (lentRefusal lent (evaluatedCall call))
   refused-by =
       record {
         three = (λ e. three (way lent call) e, λ h. three-back (way lent call) h);
@@ -125,55 +125,55 @@ module _ (lent : Lent) (call : Call) where
         no-other = few (way lent call) (argument-number (call .event));
       }
     where
-      three : Way lent call → lentRefusal lent (heard call) ≡ 3 → largestTime < call .time
+      three : Way lent call → lentRefusal lent (evaluatedCall call) ≡ 3 → largestTime < call .time
       three (late is h) e = h
       three (early is h k) e = absurd (omega arith)
       three (changed is h k) e = absurd (omega arith)
       three (judged is h) e = not-judged 3 (omega arith) (omega arith) e is
 
-      three-back : Way lent call → largestTime < call .time → lentRefusal lent (heard call) ≡ 3
+      three-back : Way lent call → largestTime < call .time → lentRefusal lent (evaluatedCall call) ≡ 3
       three-back (late is h) after = is
       three-back (early is h k) after = absurd (omega arith)
       three-back (changed is h k) after = absurd (omega arith)
       three-back (judged is h) after = absurd (omega (arith, h .0))
 
-      two : Way lent call → lentRefusal lent (heard call) ≡ 2 → (call .time ≤ largestTime) × (call .time < lent .kept .last)
+      two : Way lent call → lentRefusal lent (evaluatedCall call) ≡ 2 → (call .time ≤ largestTime) × (call .time < lent .state .last)
       two (late is h) e = absurd (omega arith)
       two (early is h k) e = (h, k)
       two (changed is h k) e = absurd (omega arith)
       two (judged is h) e = not-judged 2 (omega arith) (omega arith) e is
 
-      two-back : Way lent call → (call .time ≤ largestTime) × (call .time < lent .kept .last) → lentRefusal lent (heard call) ≡ 2
+      two-back : Way lent call → (call .time ≤ largestTime) × (call .time < lent .state .last) → lentRefusal lent (evaluatedCall call) ≡ 2
       two-back (late is h) before = absurd (omega arith)
       two-back (early is h k) before = is
       two-back (changed is h k) before = absurd (omega arith)
       two-back (judged is h) before = absurd (omega (arith, h .0))
 
-      one : Way lent call → lentRefusal lent (heard call) ≡ 1 → OnTime lent call × Altered lent
+      one : Way lent call → lentRefusal lent (evaluatedCall call) ≡ 1 → OnTime lent call × Altered lent
       one (late is h) e = absurd (omega arith)
       one (early is h k) e = absurd (omega arith)
       one (changed is h k) e = (h, k)
       one (judged is h) e = not-judged 1 (omega arith) (omega arith) e is
 
-      one-back : Way lent call → OnTime lent call × Altered lent → lentRefusal lent (heard call) ≡ 1
+      one-back : Way lent call → OnTime lent call × Altered lent → lentRefusal lent (evaluatedCall call) ≡ 1
       one-back (late is h) both = absurd (omega (arith, both .0))
       one-back (early is h k) both = absurd (omega (arith, both .0))
       one-back (changed is h k) both = is
       one-back (judged is h) both = absurd (h .1 (both .1))
 
-      later : (n : ℕ) → 4 ≤ n → Way lent call → lentRefusal lent (heard call) ≡ n → Judged lent call × WrongFor n (call .event)
+      later : (n : ℕ) → 4 ≤ n → Way lent call → lentRefusal lent (evaluatedCall call) ≡ n → Judged lent call × WrongFor n (call .event)
       later n big (late is h) e = absurd (omega arith)
       later n big (early is h k) e = absurd (omega arith)
       later n big (changed is h k) e = absurd (omega arith)
       later n big (judged is h) e = (h, arguments (call .event) n big .0 (sym is ∙ e))
 
-      later-back : (n : ℕ) → 4 ≤ n → Way lent call → Judged lent call × WrongFor n (call .event) → lentRefusal lent (heard call) ≡ n
+      later-back : (n : ℕ) → 4 ≤ n → Way lent call → Judged lent call × WrongFor n (call .event) → lentRefusal lent (evaluatedCall call) ≡ n
       later-back n big (late is h) all = absurd (omega (arith, all .0 .0))
       later-back n big (early is h k) all = absurd (omega (arith, all .0 .0))
       later-back n big (changed is h k) all = absurd (all .0 .1 k)
       later-back n big (judged is h) all = is ∙ arguments (call .event) n big .1 (all .1)
 
-      none : Way lent call → lentRefusal lent (heard call) ≡ 0 → Judged lent call × ((n : ℕ) → WrongFor n (call .event) → ⊥)
+      none : Way lent call → lentRefusal lent (evaluatedCall call) ≡ 0 → Judged lent call × ((n : ℕ) → WrongFor n (call .event) → ⊥)
       none (late is h) e = absurd (omega arith)
       none (early is h k) e = absurd (omega arith)
       none (changed is h k) e = absurd (omega arith)
@@ -185,15 +185,15 @@ module _ (lent : Lent) (call : Call) where
             absurd (omega arith),
       )
 
-      none-back : Way lent call → Known (argumentRefusal (weighed (call .event))) → Judged lent call × ((n : ℕ) → WrongFor n (call .event) → ⊥)
-          → lentRefusal lent (heard call) ≡ 0
+      none-back : Way lent call → Known (argumentRefusal (evaluated (call .event))) → Judged lent call × ((n : ℕ) → WrongFor n (call .event) → ⊥)
+          → lentRefusal lent (evaluatedCall call) ≡ 0
       none-back (late is h) number all = absurd (omega (arith, all .0 .0))
       none-back (early is h k) number all = absurd (omega (arith, all .0 .0))
       none-back (changed is h k) number all = absurd (all .0 .1 k)
       none-back (judged is h) (inl zero) all = is ∙ zero
       none-back (judged is h) (inr big) all = absurd (all .1 _ (arguments (call .event) _ (big .0) .0 refl))
 
-      few : Way lent call → Known (argumentRefusal (weighed (call .event))) → lentRefusal lent (heard call) ≤ 8
+      few : Way lent call → Known (argumentRefusal (evaluated (call .event))) → lentRefusal lent (evaluatedCall call) ≤ 8
       few (late is h) number = omega arith
       few (early is h k) number = omega arith
       few (changed is h k) number = omega arith

@@ -6,31 +6,31 @@ use native.Mathlib.Decide.{decLt}
 use native.Mathlib.Omega.{arith}
 use Rattle.rules.specs.Claim.{Trace, Closing, Successive, Proves}
 use Rattle.rules.proofs.Booleans.{clash}
-use Rattle.rules.proofs.Lawful.{Kept, previousBy, Lawful, Law, Meets, Outcome, refused, stays, shuts, opens, outcome}
+use Rattle.rules.proofs.Lawful.{Memory, previousBy, Lawful, Law, Meets, Outcome, refused, stays, shuts, opens, outcome}
 
-module _ (t : Trace) (kept : Kept) (laws : Lawful t kept) where
+module _ (t : Trace) (memory : Memory) (laws : Lawful t memory) where
   -- the sample j is the previous one before call k
   pub record Remembered (j k : ℕ) : Type 0 where
     pub before : j < k
     pub accepted : t .accepted j ≡ true
     pub sampled : t .sampled j ≡ true
-    pub verdict : kept .previous k .verdict ≡ t .verdict j
+    pub verdict : memory .previous k .verdict ≡ t .verdict j
     pub none-between : (i : ℕ) → j < i → i < k → t .accepted i ≡ true → t .sampled i ≡ false
-    pub no-opening : (o : ℕ) → j ≤ o → o < k → t .told o ≡ true → t .told (suc o) ≡ false → ⊥
+    pub no-opening : (o : ℕ) → j ≤ o → o < k → t .toldClosed o ≡ true → t .toldClosed (suc o) ≡ false → ⊥
 
-  module _ (k : ℕ) (law : Law t kept k) (keeps : kept .previous (suc k) .kept ≡ true) where
+  module _ (k : ℕ) (law : Law t memory k) (keeps : memory .previous (suc k) .kept ≡ true) where
     -- a call after which a previous sample is kept is no opening
-    not-opening : t .told k ≡ true → t .told (suc k) ≡ false → ⊥
-    not-opening closed opened = go (outcome t kept k law)
+    not-opening : t .toldClosed k ≡ true → t .toldClosed (suc k) ≡ false → ⊥
+    not-opening closed opened = go (outcome t memory k law)
       where
-        go : Outcome t kept k → ⊥
+        go : Outcome t memory k → ⊥
         go (refused out same move) = clash closed (sym same ∙ opened)
         go (stays into same move no-cause unmet) = clash closed (sym same ∙ opened)
-        go (shuts into was now move met) = clash closed was
-        go (opens into was now move why unmet forgot) = clash keeps forgot
+        go (shuts into was time move met) = clash closed was
+        go (opens into was time move why unmet forgot) = clash keeps forgot
 
     -- the previous sample stays the same over call k
-    longer : (j : ℕ) → Remembered j k → kept .previous (suc k) ≡ kept .previous k → (t .accepted k ≡ true → t .sampled k ≡ false)
+    longer : (j : ℕ) → Remembered j k → memory .previous (suc k) ≡ memory .previous k → (t .accepted k ≡ true → t .sampled k ≡ false)
         → Remembered j (suc k)
     longer j known same here =
         record {
@@ -48,14 +48,14 @@ module _ (t : Trace) (kept : Kept) (laws : Lawful t kept) where
             let is : i ≡ k = omega arith in
             rw is (here (rw (← is) into))
 
-        quiet : (o : ℕ) → j ≤ o → o < suc k → t .told o ≡ true → t .told (suc o) ≡ false → Dec (o < k) → ⊥
+        quiet : (o : ℕ) → j ≤ o → o < suc k → t .toldClosed o ≡ true → t .toldClosed (suc o) ≡ false → Dec (o < k) → ⊥
         quiet o from below closed opened (yes earlier) = known .no-opening o from earlier closed opened
         quiet o from below closed opened (no later) =
             let is : o ≡ k = omega arith in
             not-opening (rw (← is) closed) (rw (← is) opened)
 
     -- call k is the sample
-    newest : t .accepted k ≡ true → t .sampled k ≡ true → kept .previous (suc k) .verdict ≡ t .verdict k → Remembered k (suc k)
+    newest : t .accepted k ≡ true → t .sampled k ≡ true → memory .previous (suc k) .verdict ≡ t .verdict k → Remembered k (suc k)
     newest into is-sample own =
         record {
           before = omega arith;
@@ -68,41 +68,41 @@ module _ (t : Trace) (kept : Kept) (laws : Lawful t kept) where
               not-opening (rw (← is) closed) (rw (← is) opened);
         }
 
-  pub remembered : (k : ℕ) → k ≤ t .length → kept .previous k .kept ≡ true → (j : ℕ) × Remembered j k
+  pub remembered : (k : ℕ) → k ≤ t .length → memory .previous k .kept ≡ true → (j : ℕ) × Remembered j k
   remembered zero within keeps = clash keeps (laws .starts-alone)
   remembered (suc k) within keeps =
-      go (t .accepted k) (kept .forgets k) (t .sampled k) refl refl (law .previous-next) (remembered k (omega arith))
+      go (t .accepted k) (memory .forgets k) (t .sampled k) refl refl (law .previous-next) (remembered k (omega arith))
     where
-      law : Law t kept k
+      law : Law t memory k
       law = laws .each k within
 
       -- the previous sample is the one before call k
-      same-as : kept .previous (suc k) ≡ kept .previous k → (t .accepted k ≡ true → t .sampled k ≡ false)
-          → (kept .previous k .kept ≡ true → (j : ℕ) × Remembered j k) → (j : ℕ) × Remembered j (suc k)
+      same-as : memory .previous (suc k) ≡ memory .previous k → (t .accepted k ≡ true → t .sampled k ≡ false)
+          → (memory .previous k .kept ≡ true → (j : ℕ) × Remembered j k) → (j : ℕ) × Remembered j (suc k)
       same-as same here earlier =
           let known = earlier (sym (ap (λ p. p .kept) same) ∙ keeps) in
           (known .0, longer k law keeps (known .0) (known .1) same here)
 
       go : (a f s : Bool) → t .accepted k ≡ a → t .sampled k ≡ s
-          → kept .previous (suc k) ≡ cond a (previousBy f s (t .verdict k) (kept .previous k)) (kept .previous k)
-          → (kept .previous k .kept ≡ true → (j : ℕ) × Remembered j k) → (j : ℕ) × Remembered j (suc k)
+          → memory .previous (suc k) ≡ cond a (previousBy f s (t .verdict k) (memory .previous k)) (memory .previous k)
+          → (memory .previous k .kept ≡ true → (j : ℕ) × Remembered j k) → (j : ℕ) × Remembered j (suc k)
       go false f s out kind is earlier = same-as is (λ into. clash into out) earlier
       go true true s into kind is earlier = clash keeps (ap (λ p. p .kept) is)
       go true false true into kind is earlier = (k, newest k law keeps into kind (ap (λ p. p .verdict) is))
       go true false false into kind is earlier = same-as is (λ again. kind) earlier
 
   -- a closing is an accepted call that met every closing condition
-  pub closing-meets : (k : ℕ) → Closing t k → (t .accepted k ≡ true) × Meets t kept k
-  closing-meets k closing = go (outcome t kept k law)
+  pub closing-meets : (k : ℕ) → Closing t k → (t .accepted k ≡ true) × Meets t memory k
+  closing-meets k closing = go (outcome t memory k law)
     where
-      law : Law t kept k
+      law : Law t memory k
       law = laws .each k (closing .0)
 
-      go : Outcome t kept k → (t .accepted k ≡ true) × Meets t kept k
+      go : Outcome t memory k → (t .accepted k ≡ true) × Meets t memory k
       go (refused out same move) = clash (closing .2) (same ∙ closing .1)
       go (stays into same move no-cause unmet) = clash (closing .2) (same ∙ closing .1)
-      go (shuts into was now move met) = (into, law .meets met)
-      go (opens into closed now move why unmet forgot) = clash (closing .2) now
+      go (shuts into was time move met) = (into, law .meets met)
+      go (opens into closed time move why unmet forgot) = clash (closing .2) time
 
   pub partner : (k : ℕ) → Closing t k → (j : ℕ) × Remembered j k
   partner k closing = remembered k (omega (arith, closing .0)) (closing-meets k closing .1 .partner)
@@ -112,7 +112,7 @@ module _ (t : Trace) (kept : Kept) (laws : Lawful t kept) where
       let known = partner k closing in
       (known .0, pair (known .0) (known .1) (closing-meets k closing .0) (closing-meets k closing .1))
     where
-      pair : (j : ℕ) → Remembered j k → t .accepted k ≡ true → Meets t kept k → Proves t j k
+      pair : (j : ℕ) → Remembered j k → t .accepted k ≡ true → Meets t memory k → Proves t j k
       pair j known into meets =
           record {
             successive = record {

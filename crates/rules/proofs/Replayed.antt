@@ -7,7 +7,7 @@ use native.Mathlib.Omega.{arith}
 use lib.ListN.{length, take}
 use Rattle.rules.specs.Accepted.{unsettlesAt, causeAt, opensAt, closesAt}
 use Rattle.rules.specs.Begin.{Begin, beginRefusal, fresh}
-use Rattle.rules.specs.Calls.{Call, Heard, inTurn}
+use Rattle.rules.specs.Calls.{Call, EvaluatedCall, inTurn}
 use Rattle.rules.specs.Claim.{Demand3}
 use Rattle.rules.specs.Replay.{isAccepted, replay}
 use Rattle.rules.specs.State.{State, setTo}
@@ -15,15 +15,15 @@ use Rattle.rules.specs.Step5Closing.{closingsBy}
 use Rattle.rules.specs.Traces.{before, callAt, traceOf}
 use Rattle.rules.proofs.Acceptance.{on-time}
 use Rattle.rules.proofs.Demand3.{demand3-of}
-use Rattle.rules.proofs.Lawful.{Kept, Meets, Law, Lawful}
+use Rattle.rules.proofs.Lawful.{Memory, Meets, Law, Lawful}
 use Rattle.rules.proofs.Lists.{list-in-range}
 use Rattle.rules.proofs.Ranges.{pause-least}
 use Rattle.rules.proofs.Stepped.{next-is}
 use Rattle.rules.proofs.OneCall.{closed-next, opening-next, previous-is, opening-forgets, closes-exactly}
 
 module _ (begin : Begin) (calls : List Call) where
-  abbrev pub keptOf : Kept
-  keptOf =
+  abbrev pub memoryOf : Memory
+  memoryOf =
       record {
         last = λ k. before begin calls k .last;
         opening = λ k. before begin calls k .opening;
@@ -32,30 +32,30 @@ module _ (begin : Begin) (calls : List Call) where
       }
 
   -- contactor and closings as told, tied to the replay
-  pub record Follows (told : ℕ → Bool) (carried : ℕ → ℕ) : Type 0 where
-    pub told-is : (k : ℕ) → k ≤ length calls → told k ≡ before begin calls k .closed
+  pub record Follows (toldClosed : ℕ → Bool) (carried : ℕ → ℕ) : Type 0 where
+    pub told-is : (k : ℕ) → k ≤ length calls → toldClosed k ≡ before begin calls k .closed
     pub carried-none : carried 0 ≡ 0
     pub carried-next : (k : ℕ) → k < length calls
         → carried (suc k) ≡ closingsBy (isAccepted (before begin calls k) (callAt begin calls k) && closesAt (before begin calls k) (callAt begin calls k)) (carried k)
 
-  module _ (told : ℕ → Bool) (carried : ℕ → ℕ) (tells : Follows told carried) where
+  module _ (toldClosed : ℕ → Bool) (carried : ℕ → ℕ) (tells : Follows toldClosed carried) where
     module _ (k : ℕ) (below : k < length calls) where
       abbrev s : State
       s = before begin calls k
 
-      abbrev call : Heard
+      abbrev call : EvaluatedCall
       call = callAt begin calls k
 
-      told-here : told k ≡ s .closed
+      told-here : toldClosed k ≡ s .closed
       told-here = tells .told-is k (omega arith)
 
-      told-next : told (suc k) ≡ cond (isAccepted s call) ((told k && not (causeAt s call)) || closesAt s call) (told k)
+      told-next : toldClosed (suc k) ≡ cond (isAccepted s call) ((toldClosed k && not (causeAt s call)) || closesAt s call) (toldClosed k)
       told-next =
           tells .told-is (suc k) below ∙ next-is begin calls k below (λ x. x .closed) _ (closed-next s call)
           ∙ ap (λ b. cond (isAccepted s call) ((b && not (causeAt s call)) || closesAt s call) b) (sym told-here)
 
       opening-law : before begin calls (suc k) .opening
-          ≡ cond (isAccepted s call && (told k && causeAt s call)) (setTo (call .time)) (s .opening)
+          ≡ cond (isAccepted s call && (toldClosed k && causeAt s call)) (setTo (call .time)) (s .opening)
       opening-law =
           next-is begin calls k below (λ x. x .opening) _ (opening-next s call)
           ∙ nested (isAccepted s call) (s .closed && causeAt s call)
@@ -65,7 +65,7 @@ module _ (begin : Begin) (calls : List Call) where
           nested true b = refl
           nested false b = refl
 
-      meets-law : closesAt s call ≡ true → Meets (traceOf begin calls told carried) keptOf k
+      meets-law : closesAt s call ≡ true → Meets (traceOf begin calls toldClosed carried) memoryOf k
       meets-law met =
           let all = closes-exactly s call .0 met in
           record {
@@ -79,7 +79,7 @@ module _ (begin : Begin) (calls : List Call) where
             rested = all .rests;
           }
 
-      law : Law (traceOf begin calls told carried) keptOf k
+      law : Law (traceOf begin calls toldClosed carried) memoryOf k
       law =
           record {
             told-next = told-next;
@@ -93,7 +93,7 @@ module _ (begin : Begin) (calls : List Call) where
             meets = meets-law;
           }
 
-    pub lawful : beginRefusal begin ≡ 0 → Lawful (traceOf begin calls told carried) keptOf
+    pub lawful : beginRefusal begin ≡ 0 → Lawful (traceOf begin calls toldClosed carried) memoryOf
     unfolding replay inTurn fresh
     lawful accepted =
         record {
@@ -105,5 +105,5 @@ module _ (begin : Begin) (calls : List Call) where
         }
 
     -- demand 3, from a contactor and a count that follow the replay
-    pub demand3-told : beginRefusal begin ≡ 0 → Demand3 (traceOf begin calls told carried)
-    demand3-told accepted = demand3-of (traceOf begin calls told carried) keptOf (lawful accepted)
+    pub demand3-told : beginRefusal begin ≡ 0 → Demand3 (traceOf begin calls toldClosed carried)
+    demand3-told accepted = demand3-of (traceOf begin calls toldClosed carried) memoryOf (lawful accepted)

@@ -13,7 +13,7 @@ use Rattle.units.proofs.LevelOrder.{both-ways, and-parts, within-parts}
 use Rattle.pilot.specs.Bands.{bandC, bandD, noBand, inC, inD, inE, inLowBand, bandOf, ready}
 use Rattle.pilot.specs.Verdicts.{sound, proven, verdictOf}
 use Rattle.pilot.proofs.Laws.{bands-are}
-use Rattle.window.specs.Weighing.{Weighs, levels, refused}
+use Rattle.window.specs.Evaluation.{Evaluation, levels, refused}
 use Rattle.rules.specs.Calls.{Event, sample, limit, measure, fault, clear, tick}
 use Rattle.rules.specs.Pairs.{verdict}
 use Rattle.rules.specs.State.{State}
@@ -98,7 +98,7 @@ module _ (high : ℤ) where
 
 -- the same of a call's verdict: a call that is no sample has none of them
 module _ (s : State) where
-  pub verdict-fits : (event : Event Weighs) → verdict s event .sound ≡ true → fits (verdict s event .band) ≡ true
+  pub verdict-fits : (event : Event Evaluation) → verdict s event .sound ≡ true → fits (verdict s event .band) ≡ true
   unfolding verdict verdictOf
   verdict-fits (sample (levels high low)) e = sound-fits high (s .wave) low e
   verdict-fits (sample (refused number)) e = refl
@@ -108,7 +108,7 @@ module _ (s : State) where
   verdict-fits clear e = refl
   verdict-fits tick e = refl
 
-  pub verdict-sound : (event : Event Weighs) → verdict s event .proven ≡ true → verdict s event .sound ≡ true
+  pub verdict-sound : (event : Event Evaluation) → verdict s event .proven ≡ true → verdict s event .sound ≡ true
   unfolding verdict verdictOf
   verdict-sound (sample (levels high low)) e = proven-sound high (s .wave) low (s .settings .ventilation) e
   verdict-sound (sample (refused number)) e = e
@@ -118,7 +118,7 @@ module _ (s : State) where
   verdict-sound clear e = e
   verdict-sound tick e = e
 
-  pub verdict-ready : (event : Event Weighs) → verdict s event .proven ≡ true → ready (verdict s event .band) (s .settings .ventilation) ≡ true
+  pub verdict-ready : (event : Event Evaluation) → verdict s event .proven ≡ true → ready (verdict s event .band) (s .settings .ventilation) ≡ true
   unfolding verdict verdictOf
   verdict-ready (sample (levels high low)) e = proven-ready high (s .wave) low (s .settings .ventilation) e
   verdict-ready (sample (refused number)) e = both-ways (sym e)

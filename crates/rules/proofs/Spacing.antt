@@ -9,23 +9,23 @@ use Rattle.rules.specs.Claim.{Trace, Closing, closingsIn, leastPause, Sp
 use Rattle.rules.specs.Lent.{mostClosings}
 use Rattle.rules.specs.Step5Closing.{closingsBy}
 use Rattle.rules.proofs.Booleans.{clash}
-use Rattle.rules.proofs.Lawful.{Kept, Lawful, Law, Outcome, refused, stays, shuts, opens, outcome}
+use Rattle.rules.proofs.Lawful.{Memory, Lawful, Law, Outcome, refused, stays, shuts, opens, outcome}
 use Rattle.rules.proofs.Remembered.{closing-meets}
 use Rattle.rules.proofs.Rests.{LastOpening, between, paused}
 
-module _ (t : Trace) (kept : Kept) (laws : Lawful t kept) where
+module _ (t : Trace) (memory : Memory) (laws : Lawful t memory) where
   -- the clock: the last accepted time never falls
-  pub not-before : (i m : ℕ) → t .accepted i ≡ true → i < m → m ≤ t .length → t .time i ≤ kept .last m
+  pub not-before : (i m : ℕ) → t .accepted i ≡ true → i < m → m ≤ t .length → t .time i ≤ memory .last m
   not-before i zero into after within = absurd (not-suc-le-zero after)
   not-before i (suc m) into after within = go (decLt i m) (t .accepted m) refl (λ later. not-before i m into later (omega arith))
     where
-      law : Law t kept m
+      law : Law t memory m
       law = laws .each m within
 
-      next : (a : Bool) → t .accepted m ≡ a → kept .last (suc m) ≡ cond a (t .time m) (kept .last m)
+      next : (a : Bool) → t .accepted m ≡ a → memory .last (suc m) ≡ cond a (t .time m) (memory .last m)
       next a e = law .last-next ∙ rw e
 
-      go : Dec (i < m) → (a : Bool) → t .accepted m ≡ a → (i < m → t .time i ≤ kept .last m) → t .time i ≤ kept .last (suc m)
+      go : Dec (i < m) → (a : Bool) → t .accepted m ≡ a → (i < m → t .time i ≤ memory .last m) → t .time i ≤ memory .last (suc m)
       go (yes later) true e earlier = rw (next true e) (omega (arith, earlier later, law .not-back e))
       go (yes later) false e earlier = rw (next false e) (earlier later)
       go (no first) a e earlier =
@@ -38,12 +38,12 @@ module _ (t : Trace) (kept : Kept) (laws : Lawful t kept) where
 
   -- call k is a closing, as a test
   abbrev closesIn : ℕ → Bool
-  closesIn k = not (t .told k) && t .told (suc k)
+  closesIn k = not (t .toldClosed k) && t .toldClosed (suc k)
 
   is-closing : (k : ℕ) → k < t .length → closesIn k ≡ true → Closing t k
-  is-closing k within e = go (t .told k) (t .told (suc k)) refl refl e
+  is-closing k within e = go (t .toldClosed k) (t .toldClosed (suc k)) refl refl e
     where
-      go : (a b : Bool) → t .told k ≡ a → t .told (suc k) ≡ b → not a && b ≡ true → Closing t k
+      go : (a b : Bool) → t .toldClosed k ≡ a → t .toldClosed (suc k) ≡ b → not a && b ≡ true → Closing t k
       go false true p q r = (within, p, q)
       go false false p q r = clash refl (sym r)
       go true b p q r = clash refl (sym r)
@@ -127,18 +127,18 @@ module _ (t : Trace) (kept : Kept) (laws : Lawful t kept) where
             none-after = λ k after below closing. absurd (omega arith);
             spaced = λ d more.
                 let is : d ≡ suc c = omega (arith, rw e at more) in
-                rw is (omega (arith, known .spaced c count, paused t kept laws (known .last) (gap .0) n here (gap .1), ordered, pauses n within));
+                rw is (omega (arith, known .spaced c count, paused t memory laws (known .last) (gap .0) n here (gap .1), ordered, pauses n within));
           }
         where
           here : Closing t n
           here = is-closing n within e
 
-          gap : (o : ℕ) × LastOpening t kept laws (known .last) o n
-          gap = between t kept laws (known .last) n (known .last-below) (known .last-closes) here
+          gap : (o : ℕ) × LastOpening t memory laws (known .last) o n
+          gap = between t memory laws (known .last) n (known .last-below) (known .last-closes) here
 
           ordered : t .time (known .last) ≤ t .time (gap .0)
           ordered =
-              in-order (known .last) (gap .0) (closing-meets t kept laws (known .last) (known .last-closes) .0) (gap .1 .accepted)
+              in-order (known .last) (gap .0) (closing-meets t memory laws (known .last) (known .last-closes) .0) (gap .1 .accepted)
               (gap .1 .after-closing) (omega (arith, gap .1 .before))
 
       go : (b : Bool) → closesIn n ≡ b → (c : ℕ) → closingsIn t n ≡ c → (1 ≤ closingsIn t n → SpansIn least n)
@@ -155,7 +155,7 @@ module _ (t : Trace) (kept : Kept) (laws : Lawful t kept) where
       go zero e = omega arith
       go (suc c) e =
           let known = spans-in 1000 (laws .pause-least) n within (omega arith) in
-          let late = laws .each (known .last) (known .last-closes .0) .not-late (closing-meets t kept laws (known .last) (known .last-closes) .0) in
+          let late = laws .each (known .last) (known .last-closes .0) .not-late (closing-meets t memory laws (known .last) (known .last-closes) .0) in
           omega (arith, known .spaced c e, late)
 
   -- the least pause is not above any of them
@@ -191,20 +191,20 @@ module _ (t : Trace) (kept : Kept) (laws : Lawful t kept) where
   pub counts : (n : ℕ) → n ≤ t .length → t .carried n ≡ closingsIn t n
   unfolding closingsBy
   counts zero within = laws .starts-at-none
-  counts (suc n) within = go (outcome t kept n law) (counts n (omega arith))
+  counts (suc n) within = go (outcome t memory n law) (counts n (omega arith))
     where
-      law : Law t kept n
+      law : Law t memory n
       law = laws .each n within
 
-      go : Outcome t kept n → t .carried n ≡ closingsIn t n → t .carried (suc n) ≡ closingsIn t (suc n)
+      go : Outcome t memory n → t .carried n ≡ closingsIn t n → t .carried (suc n) ≡ closingsIn t (suc n)
       go what ih = law .carried-next ∙ tally what
         where
           quiet : (b : Bool) → not b && b ≡ false
           quiet true = refl
           quiet false = refl
 
-          tally : Outcome t kept n → closingsBy (t .accepted n && t .closes n) (t .carried n) ≡ closingsIn t (suc n)
-          tally (refused out same move) = rw (out, same, quiet (t .told n), ih)
-          tally (stays into same move no-cause unmet) = rw (into, unmet, same, quiet (t .told n), ih)
-          tally (shuts into was now move met) = rw (into, met, was, now, ih)
-          tally (opens into was now move why unmet forgot) = rw (into, unmet, was, ih)
+          tally : Outcome t memory n → closingsBy (t .accepted n && t .closes n) (t .carried n) ≡ closingsIn t (suc n)
+          tally (refused out same move) = rw (out, same, quiet (t .toldClosed n), ih)
+          tally (stays into same move no-cause unmet) = rw (into, unmet, same, quiet (t .toldClosed n), ih)
+          tally (shuts into was time move met) = rw (into, met, was, time, ih)
+          tally (opens into was time move why unmet forgot) = rw (into, unmet, was, ih)

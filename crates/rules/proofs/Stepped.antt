@@ -6,13 +6,13 @@ use Prim.Native.Nat.{ℕ, suc, _<_}
 use lib.ListN.{length}
 use Rattle.rules.specs.Accepted.{accept}
 use Rattle.rules.specs.Begin.{Begin, fresh}
-use Rattle.rules.specs.Calls.{Call, Heard}
+use Rattle.rules.specs.Calls.{Call, EvaluatedCall}
 use Rattle.rules.specs.Replay.{isAccepted, step, replay}
 use Rattle.rules.specs.State.{State}
 use Rattle.rules.specs.Traces.{before, callAt}
 use Rattle.rules.proofs.Turns.{turn-next}
 
-module _ (s : State) (call : Heard) where
+module _ (s : State) (call : EvaluatedCall) where
   pub step-by : (a : Bool) → isAccepted s call ≡ a → step s call ≡ cond a (accept s call) s
   unfolding step
   step-by true into = rw into
@@ -31,7 +31,7 @@ module _ (begin : Begin) (calls : List Call) (k : ℕ) (below : k < length calls
   abbrev s : State
   s = before begin calls k
 
-  abbrev call : Heard
+  abbrev call : EvaluatedCall
   call = callAt begin calls k
 
   pub before-next : before begin calls (suc k) ≡ step s call

@@ -1,7 +1,7 @@
 -- An accepted call: steps 1 to 5 in their order, and what is kept at its end (document 01, demand 3).
 use mathlib.Core.Bool.{Bool, true, _&&_, _||_, not, cond}
 use Prim.Native.Nat.{ℕ}
-use Rattle.rules.specs.Calls.{Heard, isFault}
+use Rattle.rules.specs.Calls.{EvaluatedCall, isFault}
 use Rattle.rules.specs.Pairs.{Pair, pairOf}
 use Rattle.rules.specs.Step1Event.{stepEvent}
 use Rattle.rules.specs.Step2Latches.{unsettles, stepLatch}
@@ -12,7 +12,7 @@ use Rattle.rules.specs.State.{State}
 
 -- the end of a call: its time stays, and so does its sample, unless the call forgot
 abbrev pub stepEnd : Bool → ℕ → Pair → State → State
-stepEnd forgot now pair s =
+stepEnd forgot time pair s =
     record {
       settings = s .settings;
       limit = s .limit;
@@ -20,7 +20,7 @@ stepEnd forgot now pair s =
       closed = s .closed;
       settled = s .settled;
       faults = s .faults;
-      last = now;
+      last = time;
       sound = s .sound;
       opening = s .opening;
       overrun = s .overrun;
@@ -28,7 +28,7 @@ stepEnd forgot now pair s =
       previous = cond (pair .sampled && not forgot) (record { kept = true; verdict = pair .this }) (s .previous);
     }
 
-module _ (s : State) (call : Heard) where
+module _ (s : State) (call : EvaluatedCall) where
   -- the pair of the call: its own sample and the previous one as kept before it
   abbrev pub pairAt : Pair
   pairAt = pairOf s (call .event)

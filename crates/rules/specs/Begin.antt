@@ -5,6 +5,7 @@ use lib.Dec.{eqb, ltb}
 use Rattle.units.specs.Range.{fromTo}
 use Rattle.rules.specs.State.{State, unsettled, noFaults, empty, forgotten}
 
+-- begin's values: time, rated current, pause, ventilation
 pub record Begin : Type 0 where
   pub time : ℕ
   pub rated : ℕ
@@ -19,6 +20,7 @@ largestTime = 1000000000000
 abbrev pub defaultPause : ℕ
 defaultPause = 3000
 
+-- the range of the rated current
 unfoldable pub ratedAllowed : ℕ → Bool
 ratedAllowed rated = fromTo 6000 80000 rated
 

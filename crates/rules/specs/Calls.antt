@@ -3,9 +3,9 @@ use mathlib.Core.Bool.{Bool, true, false}
 use mathlib.Core.List.{List, [], _∷_}
 use Prim.Native.Nat.{ℕ}
 use lib.IntN.{ℤ}
-use Rattle.window.specs.Weighing.{Weighs, weighing}
+use Rattle.window.specs.Evaluation.{Evaluation, evaluate}
 
--- kind and arguments of a call; a sample's window is its readings or, once weighed, its levels or refusal
+-- kind and arguments of a call; a sample's window is its readings or, once evaluated, its levels or refusal
 pub data Event (Window : Type 0) : Type 0 where
   sample : Window → Event Window
   limit : ℕ → Event Window
@@ -14,32 +14,36 @@ pub data Event (Window : Type 0) : Type 0 where
   clear : Event Window
   tick : Event Window
 
+-- a call of a list: its time, its kind and its arguments
 pub record Call : Type 0 where
   pub time : ℕ
   pub event : Event (List ℤ)
 
--- a call whose window is weighed
-pub record Heard : Type 0 where
+-- a call whose window is evaluated
+pub record EvaluatedCall : Type 0 where
   pub time : ℕ
-  pub event : Event Weighs
+  pub event : Event Evaluation
 
-unfoldable pub weighed : Event (List ℤ) → Event Weighs
-weighed (sample window) = sample (weighing window)
-weighed (limit current) = limit current
-weighed (measure current) = measure current
-weighed (fault kind) = fault kind
-weighed clear = clear
-weighed tick = tick
+-- the window evaluated to its levels, or to its refusal; the other calls as they are
+unfoldable pub evaluated : Event (List ℤ) → Event Evaluation
+evaluated (sample window) = sample (evaluate window)
+evaluated (limit current) = limit current
+evaluated (measure current) = measure current
+evaluated (fault kind) = fault kind
+evaluated clear = clear
+evaluated tick = tick
 
-abbrev pub heard : Call → Heard
-heard call = record { time = call .time; event = weighed (call .event) }
+-- a call of a list, its window evaluated
+abbrev pub evaluatedCall : Call → EvaluatedCall
+evaluatedCall call = record { time = call .time; event = evaluated (call .event) }
 
 -- the calls of a list in turn, each from what the one before it left
-unfoldable pub inTurn : {S : Type 0} → (S → Heard → S) → S → List Call → S
+unfoldable pub inTurn : {S : Type 0} → (S → EvaluatedCall → S) → S → List Call → S
 inTurn one s [] = s
-inTurn one s (call ∷ calls) = inTurn one (one s (heard call)) calls
+inTurn one s (call ∷ calls) = inTurn one (one s (evaluatedCall call)) calls
 
-abbrev pub isSample : Event Weighs → Bool
+-- a sample call
+abbrev pub isSample : Event Evaluation → Bool
 isSample (sample window) = true
 isSample (limit current) = false
 isSample (measure current) = false
@@ -47,7 +51,8 @@ isSample (fault kind) = false
 isSample clear = false
 isSample tick = false
 
-abbrev pub isFault : Event Weighs → Bool
+-- a fault call
+abbrev pub isFault : Event Evaluation → Bool
 isFault (sample window) = false
 isFault (limit current) = false
 isFault (measure current) = false

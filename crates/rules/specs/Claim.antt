@@ -12,7 +12,7 @@ pub record Trace : Type 0 where
   -- how many calls the list has
   pub length : ℕ
   -- contactor and closings as told before call k: by the reply of the call before it, or by begin's
-  pub told : ℕ → Bool
+  pub toldClosed : ℕ → Bool
   pub carried : ℕ → ℕ
   -- of call k, by the replay: the table has no refusal for it; its time; it is a sample, and its verdict
   pub accepted : ℕ → Bool
@@ -26,16 +26,17 @@ pub record Trace : Type 0 where
   pub pause : ℕ → ℕ
 
 module _ (t : Trace) where
+  -- call k of the list, accepted
   abbrev pub Accepted : ℕ → Type 0
   Accepted k = (k < t .length) × (t .accepted k ≡ true)
 
   -- a closing: told closed where the reply before told open
   abbrev pub Closing : ℕ → Type 0
-  Closing k = (k < t .length) × (t .told k ≡ false) × (t .told (suc k) ≡ true)
+  Closing k = (k < t .length) × (t .toldClosed k ≡ false) × (t .toldClosed (suc k) ≡ true)
 
   -- an opening: the reverse
   abbrev pub Opening : ℕ → Type 0
-  Opening k = (k < t .length) × (t .told k ≡ true) × (t .told (suc k) ≡ false)
+  Opening k = (k < t .length) × (t .toldClosed k ≡ true) × (t .toldClosed (suc k) ≡ false)
 
   -- an accepted call that met every closing condition, with no opening cause in a later accepted one
   pub record HeldSince (k : ℕ) : Type 0 where
@@ -72,7 +73,7 @@ module _ (t : Trace) where
   -- how many of the first n calls are closings
   abbrev pub closingsIn : ℕ → ℕ
   closingsIn zero = 0
-  closingsIn (suc k) = cond (not (t .told k) && t .told (suc k)) (suc (closingsIn k)) (closingsIn k)
+  closingsIn (suc k) = cond (not (t .toldClosed k) && t .toldClosed (suc k)) (suc (closingsIn k)) (closingsIn k)
 
   -- the least pause in force at begin and at the first n calls
   abbrev pub leastPause : ℕ → ℕ
@@ -91,7 +92,7 @@ module _ (t : Trace) where
 
   -- demand 3
   pub record Demand3 : Type 0 where
-    pub exactly : (t .told (t .length) ≡ true) ↔ ((k : ℕ) × HeldSince k)
+    pub exactly : (t .toldClosed (t .length) ≡ true) ↔ ((k : ℕ) × HeldSince k)
     pub proves : (k : ℕ) → Closing k → (j : ℕ) × Proves j k
     pub rests : (i j k : ℕ) → i < k → Closing i → Closing k → Proves j k → Rested i j k
     pub counts : t .carried (t .length) ≡ closingsIn (t .length)

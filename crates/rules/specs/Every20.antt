@@ -36,7 +36,7 @@ module _ (t : Trace) where
   pub record ClosedIsSound : Type 0 where
     -- at any moment between two consecutive accepted calls of such a board, with n replies told so far
     pub between-calls : Every20 → (i k n moment : ℕ) → Consecutive i k → i < n → n ≤ k
-        → t .time i ≤ moment → moment ≤ t .time k → t .told n ≡ true → SoundWithin100 n moment
+        → t .time i ≤ moment → moment ≤ t .time k → t .toldClosed n ≡ true → SoundWithin100 n moment
     -- at any moment up to 20 after the last accepted call, whether another one follows or not
     pub after-last : (i n moment : ℕ) → LastAccepted i n
-        → t .time i ≤ moment → moment ≤ t .time i + 20 → t .told n ≡ true → SoundWithin100 n moment
+        → t .time i ≤ moment → moment ≤ t .time i + 20 → t .toldClosed n ≡ true → SoundWithin100 n moment

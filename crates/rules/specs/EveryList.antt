@@ -37,18 +37,19 @@ pub record Reached (s : State) : Type 0 where
   pub overrun-driven : s .overrun .set ≡ true → driven (s .wave) ≡ true
   -- closed: no fault, a sound sample within 80 of the last accepted call, and C or ventilated D settled
   pub closed-no-fault : s .closed ≡ true → anyFault (s .faults) ≡ false
-  pub closed-heard : s .closed ≡ true → s .sound .set ≡ true
+  pub closed-sampled : s .closed ≡ true → s .sound .set ≡ true
   pub closed-sound : s .closed ≡ true → s .last ≤ s .sound .time + 80
   pub closed-ready : s .closed ≡ true → ready (s .settled) (s .settings .ventilation) ≡ true
 
+-- what holds of a list: demand 3 of the definitions' own replies, and what they follow from
 pub record EveryList (begin : Begin) (calls : List Call) : Type 0 where
   pub demand3 : Demand3 (answered begin calls)
   -- each reply's refusal number is the table's, and its wave the replay's
   pub refusals : (k : ℕ) → k < length calls → replyBefore begin calls (suc k) .refusal ≡ refusal (before begin calls k) (callAt begin calls k)
   pub waves : (k : ℕ) → k ≤ length calls → replyBefore begin calls k .wave ≡ before begin calls k .wave
   -- the controller keeps what the replay keeps, and holds the contactor and the closings that were last told; refusal 1 never names it
-  pub kept : (k : ℕ) → k ≤ length calls → lentAt begin calls k .kept ≡ before begin calls k
-  pub held : (k : ℕ) → k ≤ length calls → lentAt begin calls k .kept .closed ≡ replyBefore begin calls k .closed
+  pub states-are : (k : ℕ) → k ≤ length calls → lentAt begin calls k .state ≡ before begin calls k
+  pub held : (k : ℕ) → k ≤ length calls → lentAt begin calls k .state .closed ≡ replyBefore begin calls k .closed
   pub carried : (k : ℕ) → k ≤ length calls → lentAt begin calls k .closings ≡ replyBefore begin calls k .closings
   pub not-altered : (k : ℕ) → k ≤ length calls → altered (lentAt begin calls k) ≡ false
   -- what every state on the way has

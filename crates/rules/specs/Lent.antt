@@ -4,13 +4,14 @@ use Prim.Native.Nat.{ℕ}
 use lib.Dec.{eqb, leb}
 use Rattle.units.specs.Wave.{driven}
 use Rattle.rules.specs.Begin.{ratedAllowed, pauseAllowed}
-use Rattle.rules.specs.Calls.{Heard}
+use Rattle.rules.specs.Calls.{EvaluatedCall}
 use Rattle.rules.specs.Refusals.{orElse, timeRefusal, limitAllowed, argumentRefusal}
 use Rattle.rules.specs.State.{State, Moment}
 use Rattle.rules.specs.Step3Wave.{steadyLow, steadyHigh}
 
+-- the controller that a call is lent
 pub record Lent : Type 0 where
-  pub kept : State
+  pub state : State
   pub closings : ℕ
 
 -- the most closings that a list leads to
@@ -25,12 +26,14 @@ waveAllowed wave = eqb wave steadyLow || (driven wave || eqb wave steadyHigh)
 unfoldable pub storedAllowed : ℕ → Moment → Bool
 storedAllowed last stored = not (stored .set) || leb (stored .time) last
 
+-- no stored time is above the last accepted one
 unfoldable pub timesAllowed : State → Bool
 timesAllowed s =
     storedAllowed (s .last) (s .sound)
     && (storedAllowed (s .last) (s .opening)
     && (storedAllowed (s .last) (s .overrun) && storedAllowed (s .last) (s .stop)))
 
+-- wave, limit, rated and pause are in range, and so are the stored times
 unfoldable pub inRange : State → Bool
 inRange s =
     waveAllowed (s .wave)
@@ -39,9 +42,9 @@ inRange s =
 
 -- a controller that the host has altered
 unfoldable pub altered : Lent → Bool
-altered lent = not (inRange (lent .kept) && leb (lent .closings) mostClosings)
+altered lent = not (inRange (lent .state) && leb (lent .closings) mostClosings)
 
 -- the refusal of a call that is lent a controller: 3, then 2, then 1, then 4 to 8
-unfoldable pub lentRefusal : Lent → Heard → ℕ
+unfoldable pub lentRefusal : Lent → EvaluatedCall → ℕ
 lentRefusal lent call =
-    orElse (timeRefusal (lent .kept) (call .time)) (orElse (cond (altered lent) 1 0) (argumentRefusal (call .event)))
+    orElse (timeRefusal (lent .state) (call .time)) (orElse (cond (altered lent) 1 0) (argumentRefusal (call .event)))

@@ -18,9 +18,4 @@ pub mod Claim
 pub mod Traces
 pub mod Every20
 pub mod EveryList
-pub mod Sequences
-pub mod BenchRows
-pub mod OtherRows
-pub mod StateRows
-pub mod RangeRows
 pub mod RefusalsAre

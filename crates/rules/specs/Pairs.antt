@@ -5,7 +5,7 @@ use lib.Dec.{eqb}
 use Rattle.pilot.specs.declared.verdicts.Verdict.{Verdict}
 use Rattle.pilot.specs.Bands.{noBand}
 use Rattle.pilot.specs.Verdicts.{verdictOf}
-use Rattle.window.specs.Weighing.{Weighs, levels, refused}
+use Rattle.window.specs.Evaluation.{Evaluation, levels, refused}
 use Rattle.rules.specs.Calls.{Event, sample, limit, measure, fault, clear, tick, isSample}
 use Rattle.rules.specs.State.{State, Previous, noVerdict}
 
@@ -16,7 +16,7 @@ pub record Pair : Type 0 where
   pub previous : Previous
 
 -- a sample's verdict: its levels, judged by the ventilation and the wave as the call finds them
-unfoldable pub verdict : State → Event Weighs → Verdict
+unfoldable pub verdict : State → Event Evaluation → Verdict
 verdict s (sample (levels high low)) = verdictOf (s .wave) high low (s .settings .ventilation)
 verdict s (sample (refused number)) = noVerdict
 verdict s (limit current) = noVerdict
@@ -25,7 +25,8 @@ verdict s (fault kind) = noVerdict
 verdict s clear = noVerdict
 verdict s tick = noVerdict
 
-abbrev pub pairOf : State → Event Weighs → Pair
+-- this and the previous sample of a call
+abbrev pub pairOf : State → Event Evaluation → Pair
 pairOf s event = record { sampled = isSample event; this = verdict s event; previous = s .previous }
 
 -- a sample call with a partner

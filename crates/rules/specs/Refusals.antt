@@ -3,9 +3,9 @@ use mathlib.Core.Bool.{Bool, cond}
 use Prim.Native.Nat.{ℕ}
 use lib.Dec.{eqb, leb, ltb}
 use Rattle.units.specs.Range.{fromTo}
-use Rattle.window.specs.Weighing.{Weighs, levels, refused}
+use Rattle.window.specs.Evaluation.{Evaluation, levels, refused}
 use Rattle.rules.specs.Begin.{largestTime}
-use Rattle.rules.specs.Calls.{Event, sample, limit, measure, fault, clear, tick, Heard}
+use Rattle.rules.specs.Calls.{Event, sample, limit, measure, fault, clear, tick, EvaluatedCall}
 use Rattle.rules.specs.State.{State}
 
 -- the first number, or the second where the first is 0
@@ -14,10 +14,10 @@ orElse first second = cond (eqb first 0) second first
 
 -- 3: beyond the scale of times; 2: earlier than the last accepted call, or than begin if there was none
 unfoldable pub timeRefusal : State → ℕ → ℕ
-timeRefusal s now = cond (ltb largestTime now) 3 (cond (ltb now (s .last)) 2 0)
+timeRefusal s time = cond (ltb largestTime time) 3 (cond (ltb time (s .last)) 2 0)
 
 -- the window's own refusal: 4, 5 or 6
-abbrev pub windowRefusal : Weighs → ℕ
+abbrev pub windowRefusal : Evaluation → ℕ
 windowRefusal (levels high low) = 0
 windowRefusal (refused number) = number
 
@@ -34,7 +34,7 @@ unfoldable pub measureAllowed : ℕ → Bool
 measureAllowed current = leb current 200000
 
 -- 4 to 8, for the arguments
-unfoldable pub argumentRefusal : Event Weighs → ℕ
+unfoldable pub argumentRefusal : Event Evaluation → ℕ
 argumentRefusal (sample window) = windowRefusal window
 argumentRefusal (limit current) = cond (limitAllowed current) 0 7
 argumentRefusal (measure current) = cond (measureAllowed current) 0 7
@@ -43,5 +43,5 @@ argumentRefusal clear = 0
 argumentRefusal tick = 0
 
 -- the refusal of a call in a list
-unfoldable pub refusal : State → Heard → ℕ
+unfoldable pub refusal : State → EvaluatedCall → ℕ
 refusal s call = orElse (timeRefusal s (call .time)) (argumentRefusal (call .event))

@@ -24,19 +24,19 @@ StoredAbove last stored = (stored .set ≡ true) × (last < stored .time)
 
 -- what refusal 1 comes for: a lent controller that the host has altered so that one of these holds
 pub data Altered (lent : Lent) : Type 0 where
-  wave-out : WaveOut (lent .kept .wave) → Altered lent
-  limit-out : 80000 < lent .kept .limit → Altered lent
-  rated-out : Outside 6000 80000 (lent .kept .settings .rated) → Altered lent
-  pause-out : Outside 1000 60000 (lent .kept .settings .pause) → Altered lent
-  sound-above : StoredAbove (lent .kept .last) (lent .kept .sound) → Altered lent
-  opening-above : StoredAbove (lent .kept .last) (lent .kept .opening) → Altered lent
-  overrun-above : StoredAbove (lent .kept .last) (lent .kept .overrun) → Altered lent
-  stop-above : StoredAbove (lent .kept .last) (lent .kept .stop) → Altered lent
+  wave-out : WaveOut (lent .state .wave) → Altered lent
+  limit-out : 80000 < lent .state .limit → Altered lent
+  rated-out : Outside 6000 80000 (lent .state .settings .rated) → Altered lent
+  pause-out : Outside 1000 60000 (lent .state .settings .pause) → Altered lent
+  sound-above : StoredAbove (lent .state .last) (lent .state .sound) → Altered lent
+  opening-above : StoredAbove (lent .state .last) (lent .state .opening) → Altered lent
+  overrun-above : StoredAbove (lent .state .last) (lent .state .overrun) → Altered lent
+  stop-above : StoredAbove (lent .state .last) (lent .state .stop) → Altered lent
   closings-out : mostClosings < lent .closings → Altered lent
 
 -- neither 3 nor 2: the time is on the scale and does not go back
 abbrev pub OnTime : Lent → Call → Type 0
-OnTime lent call = (call .time ≤ largestTime) × (lent .kept .last ≤ call .time)
+OnTime lent call = (call .time ≤ largestTime) × (lent .state .last ≤ call .time)
 
 -- nor 1: the arguments are looked at
 abbrev pub Judged : Lent → Call → Type 0
@@ -55,7 +55,7 @@ WrongFor number tick = ⊥
 -- From 4 on they are those of the arguments: `WrongFor` has 4, 5 and 6 for a window, 7 and 8.
 pub record RefusedBy (lent : Lent) (call : Call) (number : ℕ) : Type 0 where
   pub three : (number ≡ 3) ↔ (largestTime < call .time)
-  pub two : (number ≡ 2) ↔ ((call .time ≤ largestTime) × (call .time < lent .kept .last))
+  pub two : (number ≡ 2) ↔ ((call .time ≤ largestTime) × (call .time < lent .state .last))
   pub one : (number ≡ 1) ↔ (OnTime lent call × Altered lent)
   pub later : (n : ℕ) → 4 ≤ n → (number ≡ n) ↔ (Judged lent call × WrongFor n (call .event))
   pub none : (number ≡ 0) ↔ (Judged lent call × ((n : ℕ) → WrongFor n (call .event) → ⊥))

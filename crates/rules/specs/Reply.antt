@@ -8,6 +8,7 @@ use Rattle.rules.specs.Lent.{Lent}
 use Rattle.rules.specs.State.{State, Faults, anyFault}
 use Rattle.rules.specs.Step3Wave.{isLetter}
 
+-- the reply: refusal number (0 if accepted), letter, digit, wave, contactor, fault, closings
 pub record Reply : Type 0 where
   pub refusal : ℕ
   pub letter : ℕ
@@ -17,6 +18,7 @@ pub record Reply : Type 0 where
   pub fault : ℕ
   pub closings : ℕ
 
+-- the letters F (a fault) and U (nothing settled), in ASCII
 abbrev pub letterF : ℕ
 letterF = 70
 
@@ -41,14 +43,15 @@ faultShown faults =
     (cond (faults .welded) 4
     (cond (faults .temperature) 5 0))))
 
+-- the reply to a call: the number, and the rest as the controller has it
 abbrev pub shown : ℕ → Lent → Reply
 shown number lent =
     record {
       refusal = number;
-      letter = letter (lent .kept);
-      digit = digit (lent .kept);
-      wave = lent .kept .wave;
-      closed = lent .kept .closed;
-      fault = faultShown (lent .kept .faults);
+      letter = letter (lent .state);
+      digit = digit (lent .state);
+      wave = lent .state .wave;
+      closed = lent .state .closed;
+      fault = faultShown (lent .state .faults);
       closings = lent .closings;
     }

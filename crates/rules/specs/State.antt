@@ -8,24 +8,28 @@ pub record Moment : Type 0 where
   pub set : Bool
   pub time : ℕ
 
+-- empty
 abbrev pub empty : Moment
 empty = record { set = false; time = 0 }
 
+-- set to a time
 abbrev pub setTo : ℕ → Moment
-setTo now = record { set = true; time = now }
+setTo time = record { set = true; time = time }
 
 -- starts now, unless it runs already
 abbrev pub startedBy : ℕ → Moment → Moment
-startedBy now start = cond (start .set) start (setTo now)
+startedBy time start = cond (start .set) start (setTo time)
 
 -- the previous sample with its verdict; none is kept at the start and where it is forgotten
 pub record Previous : Type 0 where
   pub kept : Bool
   pub verdict : Verdict
 
+-- the verdict where there is no sample
 abbrev pub noVerdict : Verdict
 noVerdict = record { band = 0; sound = false; proven = false; diodebad = false }
 
+-- the previous sample is forgotten
 abbrev pub forgotten : Previous
 forgotten = record { kept = false; verdict = noVerdict }
 
@@ -47,6 +51,7 @@ pub record Faults : Type 0 where
   pub welded : Bool
   pub temperature : Bool
 
+-- no fault is latched
 abbrev pub noFaults : Faults
 noFaults = record { diode = false; overcurrent = false; residual = false; welded = false; temperature = false }
 
@@ -54,6 +59,7 @@ noFaults = record { diode = false; overcurrent = false; residual = false; welded
 unfoldable pub anyFault : Faults → Bool
 anyFault faults = faults .diode || (faults .overcurrent || (faults .residual || (faults .welded || faults .temperature)))
 
+-- what is kept
 pub record State : Type 0 where
   pub settings : Settings
   -- the depot's limit

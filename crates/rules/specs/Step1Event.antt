@@ -4,7 +4,7 @@ use Prim.Native.Nat.{ℕ, _*_}
 use lib.Dec.{eqb, ltb}
 use Rattle.units.specs.Wave.{driven}
 use Rattle.duty.specs.Reading.{Reads, noCharging, digitalOnly, current, refused, readingOf}
-use Rattle.window.specs.Weighing.{Weighs}
+use Rattle.window.specs.Evaluation.{Evaluation}
 use Rattle.rules.specs.Calls.{Event, sample, limit, measure, fault, clear, tick}
 use Rattle.rules.specs.Pairs.{Pair, inOneBand}
 use Rattle.rules.specs.State.{State, Moment, Faults, noFaults, empty, setTo, startedBy}
@@ -15,10 +15,10 @@ settledBy pair settled = cond (inOneBand pair) (pair .this .band) settled
 
 -- the time of the last sound sample
 unfoldable pub soundBy : ℕ → Pair → Moment → Moment
-soundBy now pair sound = cond (pair .sampled && pair .this .sound) (setTo now) sound
+soundBy time pair sound = cond (pair .sampled && pair .this .sound) (setTo time) sound
 
 -- limit stored
-unfoldable pub limitBy : Event Weighs → ℕ → ℕ
+unfoldable pub limitBy : Event Evaluation → ℕ → ℕ
 limitBy (sample window) stored = stored
 limitBy (limit given) stored = given
 limitBy (measure line) stored = stored
@@ -38,7 +38,7 @@ withKind kind faults =
     }
 
 -- latching by a fault call, and clear
-unfoldable pub faultsBy : Event Weighs → Faults → Faults
+unfoldable pub faultsBy : Event Evaluation → Faults → Faults
 faultsBy (sample window) faults = faults
 faultsBy (limit given) faults = faults
 faultsBy (measure line) faults = faults
@@ -63,22 +63,23 @@ isOver line allowed = ltb (11 * allowed) (10 * line)
 
 -- a measure is judged where the contactor is closed and the wave driven
 unfoldable pub overrunAt : ℕ → ℕ → State → Moment
-overrunAt now line s =
+overrunAt time line s =
     cond (s .closed && driven (s .wave))
-    (cond (isOver line (announced s)) (startedBy now (s .overrun)) empty)
+    (cond (isOver line (announced s)) (startedBy time (s .overrun)) empty)
     (s .overrun)
 
 -- the over-run: only a measure starts or ends it here
-unfoldable pub overrunBy : ℕ → Event Weighs → State → Moment
-overrunBy now (sample window) s = s .overrun
-overrunBy now (limit given) s = s .overrun
-overrunBy now (measure line) s = overrunAt now line s
-overrunBy now (fault kind) s = s .overrun
-overrunBy now clear s = s .overrun
-overrunBy now tick s = s .overrun
+unfoldable pub overrunBy : ℕ → Event Evaluation → State → Moment
+overrunBy time (sample window) s = s .overrun
+overrunBy time (limit given) s = s .overrun
+overrunBy time (measure line) s = overrunAt time line s
+overrunBy time (fault kind) s = s .overrun
+overrunBy time clear s = s .overrun
+overrunBy time tick s = s .overrun
 
-abbrev pub stepEvent : ℕ → Event Weighs → Pair → State → State
-stepEvent now event pair s =
+-- step 1: settling, the last sound sample, limit, faults and over-run; the rest stays
+abbrev pub stepEvent : ℕ → Event Evaluation → Pair → State → State
+stepEvent time event pair s =
     record {
       settings = s .settings;
       limit = limitBy event (s .limit);
@@ -87,9 +88,9 @@ stepEvent now event pair s =
       settled = settledBy pair (s .settled);
       faults = faultsBy event (s .faults);
       last = s .last;
-      sound = soundBy now pair (s .sound);
+      sound = soundBy time pair (s .sound);
       opening = s .opening;
-      overrun = overrunBy now event s;
+      overrun = overrunBy time event s;
       stop = s .stop;
       previous = s .previous;
     }

@@ -7,22 +7,22 @@ use Rattle.rules.specs.State.{State, Moment, Faults, unsettled, forgotte
 
 -- it runs, and began that long ago or longer
 unfoldable pub ranFor : ℕ → ℕ → Moment → Bool
-ranFor span now start = start .set && leb (start .time + span) now
+ranFor span time start = start .set && leb (start .time + span) time
 
 -- fault 2, over-current
 unfoldable pub overCurrent : ℕ → State → Bool
-overCurrent now s = ranFor 5000 now (s .overrun)
+overCurrent time s = ranFor 5000 time (s .overrun)
 
 -- unsettling: something latches, or a latched fault is told again. A fault call always does one or the other
 unfoldable pub unsettles : Bool → ℕ → Pair → State → Bool
-unsettles faultCall now pair s = faultCall || (bothDiodeBad pair || overCurrent now s)
+unsettles faultCall time pair s = faultCall || (bothDiodeBad pair || overCurrent time s)
 
 -- the faults with 1 (no diode) and 2 as they latch
 unfoldable pub latched : ℕ → Pair → State → Faults
-latched now pair s =
+latched time pair s =
     record {
       diode = s .faults .diode || bothDiodeBad pair;
-      overcurrent = s .faults .overcurrent || overCurrent now s;
+      overcurrent = s .faults .overcurrent || overCurrent time s;
       residual = s .faults .residual;
       welded = s .faults .welded;
       temperature = s .faults .temperature;
@@ -30,18 +30,18 @@ latched now pair s =
 
 -- with the settled state goes the previous sample
 abbrev pub stepLatch : Bool → ℕ → Pair → State → State
-stepLatch faultCall now pair s =
+stepLatch faultCall time pair s =
     record {
       settings = s .settings;
       limit = s .limit;
       wave = s .wave;
       closed = s .closed;
-      settled = cond (unsettles faultCall now pair s) unsettled (s .settled);
-      faults = latched now pair s;
+      settled = cond (unsettles faultCall time pair s) unsettled (s .settled);
+      faults = latched time pair s;
       last = s .last;
       sound = s .sound;
       opening = s .opening;
       overrun = s .overrun;
       stop = s .stop;
-      previous = cond (unsettles faultCall now pair s) forgotten (s .previous);
+      previous = cond (unsettles faultCall time pair s) forgotten (s .previous);
     }

@@ -51,11 +51,12 @@ overrunUnder wave overrun = cond (driven wave) overrun empty
 
 -- a stop: starts where the contactor is closed and the wave high, ends where the wave is driven
 unfoldable pub stopUnder : ℕ → ℕ → Bool → Moment → Moment
-stopUnder now wave closed stop =
-    cond (closed && eqb wave steadyHigh) (startedBy now stop) (cond (driven wave) empty stop)
+stopUnder time wave closed stop =
+    cond (closed && eqb wave steadyHigh) (startedBy time stop) (cond (driven wave) empty stop)
 
+-- step 3: the wave, the over-run and the stop; the rest stays
 abbrev pub stepWave : ℕ → State → State
-stepWave now s =
+stepWave time s =
     record {
       settings = s .settings;
       limit = s .limit;
@@ -67,6 +68,6 @@ stepWave now s =
       sound = s .sound;
       opening = s .opening;
       overrun = overrunUnder (waveFor s) (s .overrun);
-      stop = stopUnder now (waveFor s) (s .closed) (s .stop);
+      stop = stopUnder time (waveFor s) (s .closed) (s .stop);
       previous = s .previous;
     }

@@ -13,7 +13,7 @@ cause1 pair = bothUnsound pair
 
 -- (ii) the last sound sample is more than 80 old, or there was none
 unfoldable pub cause2 : ℕ → State → Bool
-cause2 now s = cond (s .sound .set) (ltb (s .sound .time + 80) now) true
+cause2 time s = cond (s .sound .set) (ltb (s .sound .time + 80) time) true
 
 -- (iii) a state that needs ventilation, where there is none
 unfoldable pub cause3 : State → Bool
@@ -21,7 +21,7 @@ cause3 s = unventilatedD s
 
 -- (iv) a stop that is 3,000 old
 unfoldable pub cause4 : ℕ → State → Bool
-cause4 now s = ranFor 3000 now (s .stop)
+cause4 time s = ranFor 3000 time (s .stop)
 
 -- (v) any fault
 unfoldable pub cause5 : State → Bool
@@ -29,25 +29,26 @@ cause5 s = anyFault (s .faults)
 
 -- any cause holds
 unfoldable pub cause : ℕ → Pair → State → Bool
-cause now pair s = cause1 pair || (cause2 now s || (cause3 s || (cause4 now s || cause5 s)))
+cause time pair s = cause1 pair || (cause2 time s || (cause3 s || (cause4 time s || cause5 s)))
 
+-- opening: closed, and any cause holds
 unfoldable pub opens : ℕ → Pair → State → Bool
-opens now pair s = s .closed && cause now pair s
+opens time pair s = s .closed && cause time pair s
 
 -- with the contactor go the over-run, the stop and the previous sample
 abbrev pub stepOpening : ℕ → Pair → State → State
-stepOpening now pair s =
+stepOpening time pair s =
     record {
       settings = s .settings;
       limit = s .limit;
       wave = s .wave;
-      closed = s .closed && not (opens now pair s);
+      closed = s .closed && not (opens time pair s);
       settled = s .settled;
       faults = s .faults;
       last = s .last;
       sound = s .sound;
-      opening = cond (opens now pair s) (setTo now) (s .opening);
-      overrun = cond (opens now pair s) empty (s .overrun);
-      stop = cond (opens now pair s) empty (s .stop);
-      previous = cond (opens now pair s) forgotten (s .previous);
+      opening = cond (opens time pair s) (setTo time) (s .opening);
+      overrun = cond (opens time pair s) empty (s .overrun);
+      stop = cond (opens time pair s) empty (s .stop);
+      previous = cond (opens time pair s) forgotten (s .previous);
     }

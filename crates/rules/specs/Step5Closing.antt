@@ -8,24 +8,25 @@ use Rattle.rules.specs.State.{State}
 
 -- no opening yet, or the pause has passed since the last one
 unfoldable pub rested : ℕ → State → Bool
-rested now s = cond (s .opening .set) (leb (s .opening .time + s .settings .pause) now) true
+rested time s = cond (s .opening .set) (leb (s .opening .time + s .settings .pause) time) true
 
 -- the closing conditions, all of them: the contactor is open, and this call did not open it; the wave is driven; the call is a
 -- sample and makes a proven pair in one band (`bothProven` asks for both); and the contactor has rested
 unfoldable pub closes : Bool → ℕ → Pair → State → Bool
-closes opened now pair s = not (s .closed) && (not opened && (driven (s .wave) && (bothProven pair && rested now s)))
+closes opened time pair s = not (s .closed) && (not opened && (driven (s .wave) && (bothProven pair && rested time s)))
 
 -- closings grows by 1
 unfoldable pub closingsBy : Bool → ℕ → ℕ
 closingsBy closing closings = cond closing (suc closings) closings
 
+-- step 5: the contactor closes if every condition is met; the rest stays
 abbrev pub stepClosing : Bool → ℕ → Pair → State → State
-stepClosing opened now pair s =
+stepClosing opened time pair s =
     record {
       settings = s .settings;
       limit = s .limit;
       wave = s .wave;
-      closed = s .closed || closes opened now pair s;
+      closed = s .closed || closes opened time pair s;
       settled = s .settled;
       faults = s .faults;
       last = s .last;

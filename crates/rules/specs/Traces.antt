@@ -6,7 +6,7 @@ use lib.ListN.{length, getD, take}
 use Rattle.rules.specs.Accepted.{closesAt, causeAt}
 use Rattle.rules.specs.Answer.{begun, replyTo, lentAfter}
 use Rattle.rules.specs.Begin.{Begin}
-use Rattle.rules.specs.Calls.{Call, Heard, tick, heard, isSample}
+use Rattle.rules.specs.Calls.{Call, EvaluatedCall, tick, evaluatedCall, isSample}
 use Rattle.rules.specs.Claim.{Trace}
 use Rattle.rules.specs.Lent.{Lent}
 use Rattle.rules.specs.Pairs.{verdict}
@@ -23,14 +23,16 @@ module _ (begin : Begin) (calls : List Call) where
   abbrev pub before : ℕ → State
   before k = replay begin (take k calls)
 
-  abbrev pub callAt : ℕ → Heard
-  callAt k = heard (getD calls k noCall)
+  -- call k
+  abbrev pub callAt : ℕ → EvaluatedCall
+  callAt k = evaluatedCall (getD calls k noCall)
 
+  -- the trace, with any contactor and closings for those that the replies tell
   abbrev pub traceOf : (ℕ → Bool) → (ℕ → ℕ) → Trace
-  traceOf told carried =
+  traceOf toldClosed carried =
       record {
         length = length calls;
-        told = told;
+        toldClosed = toldClosed;
         carried = carried;
         accepted = λ k. isAccepted (before k) (callAt k);
         time = λ k. callAt k .time;

@@ -6,23 +6,23 @@ use native.Mathlib.Omega.{arith}
 use lib.Dec.{leb, ltb}
 use borrow.Author.Tests.{leb-true, leb-false, le-leb, lt-leb, ltb-true, ltb-false, lt-ltb, le-ltb}
 
-module _ (since span now : ℕ) where
-  pub at-least : since ≤ now → leb span (now - since) ≡ leb (since + span) now
-  at-least past = go (leb span (now - since)) refl
+module _ (since span time : ℕ) where
+  pub at-least : since ≤ time → leb span (time - since) ≡ leb (since + span) time
+  at-least past = go (leb span (time - since)) refl
     where
-      go : (t : Bool) → leb span (now - since) ≡ t → t ≡ leb (since + span) now
-      go true e = sym (le-leb (since + span) now (omega (arith, leb-true span (now - since) e)))
-      go false e = sym (lt-leb (since + span) now (omega (arith, leb-false span (now - since) e)))
+      go : (t : Bool) → leb span (time - since) ≡ t → t ≡ leb (since + span) time
+      go true e = sym (le-leb (since + span) time (omega (arith, leb-true span (time - since) e)))
+      go false e = sym (lt-leb (since + span) time (omega (arith, leb-false span (time - since) e)))
 
-  pub more-than : since ≤ now → ltb span (now - since) ≡ ltb (since + span) now
-  more-than past = go (ltb span (now - since)) refl
+  pub more-than : since ≤ time → ltb span (time - since) ≡ ltb (since + span) time
+  more-than past = go (ltb span (time - since)) refl
     where
-      go : (t : Bool) → ltb span (now - since) ≡ t → t ≡ ltb (since + span) now
-      go true e = sym (lt-ltb (since + span) now (omega (arith, ltb-true span (now - since) e)))
-      go false e = sym (le-ltb (since + span) now (omega (arith, ltb-false span (now - since) e)))
+      go : (t : Bool) → ltb span (time - since) ≡ t → t ≡ ltb (since + span) time
+      go true e = sym (lt-ltb (since + span) time (omega (arith, ltb-true span (time - since) e)))
+      go false e = sym (le-ltb (since + span) time (omega (arith, ltb-false span (time - since) e)))
 
-  pub not-at-least : now < since → false ≡ leb (since + span) now
-  not-at-least later = sym (lt-leb (since + span) now (omega arith))
+  pub not-at-least : time < since → false ≡ leb (since + span) time
+  not-at-least later = sym (lt-leb (since + span) time (omega arith))
 
-  pub not-more-than : now < since → false ≡ ltb (since + span) now
-  not-more-than later = sym (le-ltb (since + span) now (omega arith))
+  pub not-more-than : time < since → false ≡ ltb (since + span) time
+  not-more-than later = sym (le-ltb (since + span) time (omega arith))

@@ -101,24 +101,24 @@ impl Millis {
         self.0 <= last.0
     }
 
-    // At `now`, this time lies `span` or more ago. Total: no sum is made that could overflow.
-    pub fn at_least_ago(self, span: Millis, now: Millis) -> bool
-        ensures { λ r. ⌜ r ≡ leb (self .0 + span .0) (now .0) ⌝ }
+    // At `time`, this time lies `span` or more ago. Total: no sum is made that could overflow.
+    pub fn at_least_ago(self, span: Millis, time: Millis) -> bool
+        ensures { λ r. ⌜ r ≡ leb (self .0 + span .0) (time .0) ⌝ }
     {
-        if now.0 < self.0 {
+        if time.0 < self.0 {
             return false;
         }
-        span.0 <= now.0 - self.0
+        span.0 <= time.0 - self.0
     }
 
-    // At `now`, this time lies more than `span` ago.
-    pub fn more_than_ago(self, span: Millis, now: Millis) -> bool
-        ensures { λ r. ⌜ r ≡ ltb (self .0 + span .0) (now .0) ⌝ }
+    // At `time`, this time lies more than `span` ago.
+    pub fn more_than_ago(self, span: Millis, time: Millis) -> bool
+        ensures { λ r. ⌜ r ≡ ltb (self .0 + span .0) (time .0) ⌝ }
     {
-        if now.0 < self.0 {
+        if time.0 < self.0 {
             return false;
         }
-        span.0 < now.0 - self.0
+        span.0 < time.0 - self.0
     }
 }
 

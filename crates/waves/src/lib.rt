@@ -1,8 +1,8 @@
 // Step 3 of an accepted call: the wave, and what follows from it for the over-run and the stop.
 use duty::Greatest;
-use leaves::moments;
-use leaves::moments::Moment;
-use leaves::samples;
+use parts::moments;
+use parts::moments::Moment;
+use parts::samples;
 use units::Milliamps;
 use units::Millis;
 use units::conditions;
@@ -13,7 +13,7 @@ ghost use Rattle.pilot.specs.Bands.{bandD};
 ghost use Rattle.duty.specs.Answers.{asSends};
 ghost use Rattle.duty.specs.DutyFor.{dutyFor};
 ghost use Rattle.rules.specs.Step3Wave.{steadyLow, steadyHigh, isUAE, sent, overrunUnder, stopUnder};
-ghost use Rattle.leaves.specs.Views.{asMoment};
+ghost use Rattle.parts.specs.Views.{asMoment};
 
 // Settled U, A or E.
 fn is_u_a_or_e(settled: u8) -> bool
@@ -100,14 +100,14 @@ fn is_high(wave: u32) -> bool
 }
 
 // A stop starts where the contactor is closed and the wave high, and ends where the wave is driven.
-pub fn stop_under(now: Millis, wave: u32, closed: bool, stop: Moment) -> Moment
-    ensures { λ r. ⌜ asMoment r ≡ stopUnder (now .0) wave closed (asMoment stop) ⌝ }
+pub fn stop_under(time: Millis, wave: u32, closed: bool, stop: Moment) -> Moment
+    ensures { λ r. ⌜ asMoment r ≡ stopUnder (time .0) wave closed (asMoment stop) ⌝ }
 {
     let high = is_high(wave);
     let driven = units::driven(wave);
     let none = Moment::empty();
     let unless_driven = moments::pick(driven, none, stop);
-    let runs = stop.started_by(now);
+    let runs = stop.started_by(time);
     let starts = conditions::both(closed, high);
     moments::pick(starts, runs, unless_driven)
 }

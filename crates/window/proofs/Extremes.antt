@@ -5,7 +5,7 @@ use mathlib.Core.List.{List, [], _∷_, List·Memᴰ, List·Memᴰ·head, List·
 use mathlib.Core.Logic.{_⊎_, inl, inr, ⊎-elim}
 use lib.IntN.{ℤ}
 use Rattle.units.proofs.LevelOrder.{both-ways}
-use Rattle.window.specs.Weighing.{select, extreme}
+use Rattle.window.specs.Evaluation.{select, extreme}
 
 module _ (test : ℤ → Bool) (x : ℤ) where
   -- a reading is selected exactly if it passes

@@ -8,7 +8,7 @@ use lib.ListN.{length, getD, drop}
 use Rattle.units.proofs.LevelOrder.{both-ways, within-parts}
 use Rattle.units.specs.Range.{higher, lower}
 use Rattle.window.specs.Support.{supported}
-use Rattle.window.specs.Weighing.{Weighs, levels, refused, select, extreme, greatest, least, levelsOf, supportedLevels}
+use Rattle.window.specs.Evaluation.{Evaluation, levels, refused, select, extreme, greatest, least, levelsOf, supportedLevels}
 use Rattle.window.specs.Search.{inside, widen, gather}
 use Rattle.window.proofs.Turns.{next}
 
@@ -37,15 +37,15 @@ module _ (test : ℤ → Bool) where
       go true ih = gather-levels xs x x
       go false ih = ih
 
-  pub gather-none : (found : Weighs) → gather test found [] ≡ found
+  pub gather-none : (found : Evaluation) → gather test found [] ≡ found
   unfolding gather
   gather-none found = refl
 
-  gather-cons : (found : Weighs) (x : ℤ) (xs : List ℤ) → gather test found (x ∷ xs) ≡ gather test (cond (test x) (widen found x) found) xs
+  gather-cons : (found : Evaluation) (x : ℤ) (xs : List ℤ) → gather test found (x ∷ xs) ≡ gather test (cond (test x) (widen found x) found) xs
   unfolding gather
   gather-cons found x xs = refl
 
-  module _ (found : Weighs) (window : List ℤ) (i : ℕ) (x : ℤ) (here : x ≡ getD window i (pos 0)) (h : i < length window) where
+  module _ (found : Evaluation) (window : List ℤ) (i : ℕ) (x : ℤ) (here : x ≡ getD window i (pos 0)) (h : i < length window) where
     -- a reading that passes widens the levels
     pub gather-passed : test x ≡ true → gather test (widen found x) (drop (i + 1) window) ≡ gather test found (drop i window)
     gather-passed passes = rw (next window i h, ← here, gather-cons, passes)
@@ -59,11 +59,11 @@ module _ (test : ℤ → Bool) where
     gather-kept same = go (test x) refl
       where
         go : (t : Bool) → test x ≡ t → gather test found (drop (i + 1) window) ≡ gather test found (drop i window)
-        go true passes = ap (λ (f : Weighs). gather test f (drop (i + 1) window)) (sym same) ∙ gather-passed passes
+        go true passes = ap (λ (f : Evaluation). gather test f (drop (i + 1) window)) (sym same) ∙ gather-passed passes
         go false fails = gather-failed fails
 
 -- a reading within the levels leaves them as they are
-pub inside-keeps : (found : Weighs) (x : ℤ) → inside found x ≡ true → widen found x ≡ found
+pub inside-keeps : (found : Evaluation) (x : ℤ) → inside found x ≡ true → widen found x ≡ found
 unfolding inside widen higher lower
 inside-keeps (levels high low) x e =
     let both = within-parts low high x e in

@@ -13,20 +13,20 @@ use Rattle.units.specs.Range.{higher, lower}
 use Rattle.units.proofs.FromTo.{outside-exactly}
 use Rattle.units.proofs.LevelOrder.{both-ways, le-itself, le-through, higher-bounds, lower-bounds, higher-one, lower-one}
 use Rattle.window.specs.Support.{supported}
-use Rattle.window.specs.Weighing.{Weighs, levels, refused, lengthAllowed, allAllowed, select, extreme, greatest, least, levelsOf, supportedLevels, weighing}
-use Rattle.window.specs.Answers.{asWeighs}
-use Rattle.window.specs.declared.Weighed.{Weighed}
-use Rattle.window.specs.declared.Weighed.the-variants.{Levels, WrongLength, OutOfRange, Unsupported}
+use Rattle.window.specs.Evaluation.{Evaluation, levels, refused, lengthAllowed, allAllowed, select, extreme, greatest, least, levelsOf, supportedLevels, evaluate}
+use Rattle.window.specs.Answers.{asEvaluation}
+use Rattle.window.specs.declared.Evaluated.{Evaluated}
+use Rattle.window.specs.declared.Evaluated.the-variants.{Levels, WrongLength, OutOfRange, Unsupported}
 use Rattle.window.specs.Laws.{LevelsOf, OneOutOfRange, NoneSupported, RefusedFor}
 use Rattle.window.proofs.Extremes.{selected, is-selected, extreme-member, extreme-bounds}
-use Rattle.window.proofs.Refusals.{all-right, one-wrong, wrong-length, out-of-range, weighed}
+use Rattle.window.proofs.Refusals.{all-right, one-wrong, wrong-length, out-of-range, evaluated}
 
 -- a number that tells the answers apart
-tagOf : Weighs → ℕ
+tagOf : Evaluation → ℕ
 tagOf (levels high low) = 0
 tagOf (refused number) = number
 
-isRefused : Weighs → Bool
+isRefused : Evaluation → Bool
 isRefused (levels high low) = false
 isRefused (refused number) = true
 
@@ -70,15 +70,15 @@ module _ (window : List ℤ) where
   six-of e = rw e
 
   -- two different answers to one window
-  differ : {X : Type 0} {a b : Weighs} → weighing window ≡ a → weighing window ≡ b → (tagOf a ≡ tagOf b → ⊥) → X
+  differ : {X : Type 0} {a b : Evaluation} → evaluate window ≡ a → evaluate window ≡ b → (tagOf a ≡ tagOf b → ⊥) → X
   differ e f apart = absurd (apart (sym (ap tagOf e) ∙ ap tagOf f))
 
   -- the four ways in which a window is answered
   data Way : Type 0 where
-    four : lengthAllowed window ≡ false → weighing window ≡ refused 4 → Way
-    five : OneOutOfRange window → weighing window ≡ refused 5 → Way
-    six : NoneSupported window → weighing window ≡ refused 6 → Way
-    found : (high low : ℤ) → LevelsOf window high low → weighing window ≡ levels high low → Way
+    four : lengthAllowed window ≡ false → evaluate window ≡ refused 4 → Way
+    five : OneOutOfRange window → evaluate window ≡ refused 5 → Way
+    six : NoneSupported window → evaluate window ≡ refused 6 → Way
+    found : (high low : ℤ) → LevelsOf window high low → evaluate window ≡ levels high low → Way
 
   way : Way
   way = byLength (lengthAllowed window) refl
@@ -91,8 +91,8 @@ module _ (window : List ℤ) where
           go false s = refl
 
       byList : (chosen : List ℤ) → select (supported window) window ≡ chosen → lengthAllowed window ≡ true → allAllowed window ≡ true → Way
-      byList [] e l a = six (record { length-right = l; readings-right = all-right window a; none = none e }) (weighed window l a ∙ six-of e)
-      byList (first ∷ rest) e l a = found (greatest first rest) (least first rest) (levels-of first rest e l a) (weighed window l a ∙ levels-by first rest e)
+      byList [] e l a = six (record { length-right = l; readings-right = all-right window a; none = none e }) (evaluated window l a ∙ six-of e)
+      byList (first ∷ rest) e l a = found (greatest first rest) (least first rest) (levels-of first rest e l a) (evaluated window l a ∙ levels-by first rest e)
 
       byReadings : (t : Bool) → allAllowed window ≡ t → lengthAllowed window ≡ true → Way
       byReadings true a l = byList (select (supported window) window) refl l a
@@ -105,7 +105,7 @@ module _ (window : List ℤ) where
       byLength false l = four l (wrong-length window l)
 
   -- what the two levels are
-  pub levels-are : (high low : ℤ) → weighing window ≡ levels high low → LevelsOf window high low
+  pub levels-are : (high low : ℤ) → evaluate window ≡ levels high low → LevelsOf window high low
   unfolding tagOf
   levels-are high low e = go way
     where
@@ -119,51 +119,51 @@ module _ (window : List ℤ) where
           rw (← same-high, ← same-low) are
 
   -- after the length comes a reading out of range, and then the support
-  five-by : OneOutOfRange window → weighing window ≡ refused 5
+  five-by : OneOutOfRange window → evaluate window ≡ refused 5
   five-by o = go way
     where
-      go : Way → weighing window ≡ refused 5
+      go : Way → evaluate window ≡ refused 5
       go (four l w) = both-ways (sym (o .length-right) ∙ l)
       go (five p w) = w
       go (six n w) = both-ways (sym (n .readings-right (o .reading) (o .in-window)) ∙ o .out-of-range)
       go (found h l are w) = both-ways (sym (are .readings-right (o .reading) (o .in-window)) ∙ o .out-of-range)
 
-  six-by : NoneSupported window → weighing window ≡ refused 6
+  six-by : NoneSupported window → evaluate window ≡ refused 6
   six-by n = go way
     where
-      go : Way → weighing window ≡ refused 6
+      go : Way → evaluate window ≡ refused 6
       go (four l w) = both-ways (sym (n .length-right) ∙ l)
       go (five o w) = both-ways (sym (n .readings-right (o .reading) (o .in-window)) ∙ o .out-of-range)
       go (six m w) = w
       go (found h l are w) = both-ways (sym (are .high-supported) ∙ n .none h (are .high-reading))
 
   -- a window is refused by 4, 5 and 6, each for its reason, and by no other number
-  pub refused-exactly : (number : ℕ) → (weighing window ≡ refused number) ↔ RefusedFor number window
+  pub refused-exactly : (number : ℕ) → (evaluate window ≡ refused number) ↔ RefusedFor number window
   unfolding tagOf isRefused lengthAllowed
   refused-exactly number = (λ e. go e way, λ reason. back reason)
     where
-      go : weighing window ≡ refused number → Way → RefusedFor number window
+      go : evaluate window ≡ refused number → Way → RefusedFor number window
       go e (four l w) = inl (sym (ap tagOf e) ∙ ap tagOf w, outside-exactly 256 1024 (length window) .0 l)
       go e (five o w) = inr (inl (sym (ap tagOf e) ∙ ap tagOf w, o))
       go e (six n w) = inr (inr (sym (ap tagOf e) ∙ ap tagOf w, n))
       go e (found h l are w) = both-ways (sym (ap isRefused e) ∙ ap isRefused w)
 
-      back : RefusedFor number window → weighing window ≡ refused number
+      back : RefusedFor number window → evaluate window ≡ refused number
       back (inl (is, out)) = wrong-length window (outside-exactly 256 1024 (length window) .1 out) ∙ ap refused (sym is)
       back (inr (inl (is, o))) = five-by o ∙ ap refused (sym is)
       back (inr (inr (is, n))) = six-by n ∙ ap refused (sym is)
 
 -- an answer's meaning fixes the answer: the map has an inverse
-weighedFrom : Weighs → Weighed
-weighedFrom (levels high low) = Levels (record { 0 = high }) (record { 0 = low })
-weighedFrom (refused number) = cond (eqb number 4) WrongLength (cond (eqb number 5) OutOfRange Unsupported)
+evaluatedFrom : Evaluation → Evaluated
+evaluatedFrom (levels high low) = Levels (record { 0 = high }) (record { 0 = low })
+evaluatedFrom (refused number) = cond (eqb number 4) WrongLength (cond (eqb number 5) OutOfRange Unsupported)
 
-weighed-back : (r : Weighed) → weighedFrom (asWeighs r) ≡ r
-unfolding weighedFrom
-weighed-back (Levels high low) = refl
-weighed-back WrongLength = refl
-weighed-back OutOfRange = refl
-weighed-back Unsupported = refl
+evaluated-back : (r : Evaluated) → evaluatedFrom (asEvaluation r) ≡ r
+unfolding evaluatedFrom
+evaluated-back (Levels high low) = refl
+evaluated-back WrongLength = refl
+evaluated-back OutOfRange = refl
+evaluated-back Unsupported = refl
 
-pub weighs-fixes : (r s : Weighed) → asWeighs r ≡ asWeighs s → r ≡ s
-weighs-fixes r s e = sym (weighed-back r) ∙ ap weighedFrom e ∙ weighed-back s
+pub evaluation-fixes : (r s : Evaluated) → asEvaluation r ≡ asEvaluation s → r ≡ s
+evaluation-fixes r s e = sym (evaluated-back r) ∙ ap evaluatedFrom e ∙ evaluated-back s

@@ -1,11 +1,11 @@
--- The order of the refusals 4 and 5, before the readings are weighed.
+-- The order of the refusals 4 and 5, before the readings are evaluated.
 use mathlib.Core.Path.{_≡_, refl, _∙_, ap}
 use mathlib.Core.Bool.{Bool, true, false, _&&_}
 use mathlib.Core.List.{List, [], _∷_, List·Memᴰ, List·Memᴰ·head, List·Memᴰ·tail, List·Memᴰ·not-nil, List·Memᴰ·cases-cons}
 use mathlib.Core.Logic.{⊎-elim}
 use lib.IntN.{ℤ}
 use Rattle.units.proofs.LevelOrder.{both-ways, and-parts}
-use Rattle.window.specs.Weighing.{refused, lengthAllowed, readingAllowed, allAllowed, supportedLevels, weighing}
+use Rattle.window.specs.Evaluation.{refused, lengthAllowed, readingAllowed, allAllowed, supportedLevels, evaluate}
 
 -- every reading is allowed
 pub all-right : (readings : List ℤ) → allAllowed readings ≡ true → (x : ℤ) → List·Memᴰ x readings → readingAllowed x ≡ true
@@ -27,14 +27,14 @@ one-wrong (y ∷ ys) e = go (readingAllowed y) refl (one-wrong ys) e
     go false bad ih f = (y, List·Memᴰ·head refl, bad)
 
 module _ (window : List ℤ) where
-  pub wrong-length : lengthAllowed window ≡ false → weighing window ≡ refused 4
-  unfolding weighing
+  pub wrong-length : lengthAllowed window ≡ false → evaluate window ≡ refused 4
+  unfolding evaluate
   wrong-length e = rw e
 
-  pub out-of-range : lengthAllowed window ≡ true → allAllowed window ≡ false → weighing window ≡ refused 5
-  unfolding weighing
+  pub out-of-range : lengthAllowed window ≡ true → allAllowed window ≡ false → evaluate window ≡ refused 5
+  unfolding evaluate
   out-of-range e f = rw (e, f)
 
-  pub weighed : lengthAllowed window ≡ true → allAllowed window ≡ true → weighing window ≡ supportedLevels window
-  unfolding weighing
-  weighed e f = rw (e, f)
+  pub evaluated : lengthAllowed window ≡ true → allAllowed window ≡ true → evaluate window ≡ supportedLevels window
+  unfolding evaluate
+  evaluated e f = rw (e, f)

@@ -7,7 +7,7 @@ use native.Mathlib.Numerals.{add-one}
 use lib.IntN.{ℤ, pos}
 use lib.ListN.{length, getD, drop, drop-of-length-le}
 use lib.Seq.{drop-cons}
-use Rattle.window.specs.Weighing.{readingAllowed, allAllowed}
+use Rattle.window.specs.Evaluation.{readingAllowed, allAllowed}
 
 -- the reading at i, then the rest
 pub next : (window : List ℤ) (i : ℕ) → i < length window → drop i window ≡ getD window i (pos 0) ∷ drop (i + 1) window

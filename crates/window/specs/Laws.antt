@@ -10,7 +10,7 @@ use lib.IntN.{ℤ}
 use lib.Signed.{leZ}
 use Rattle.units.specs.Range.{Outside}
 use Rattle.window.specs.Support.{supported}
-use Rattle.window.specs.Weighing.{lengthAllowed, readingAllowed}
+use Rattle.window.specs.Evaluation.{lengthAllowed, readingAllowed}
 
 -- when levels come: length and readings are right, each level stands in the window with its support, and nothing with support
 -- lies outside the two

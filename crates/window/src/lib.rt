@@ -6,11 +6,11 @@ mod search; // search.rt: the levels of the supported readings
 mod support; // support.rt: when a reading supports another, and how many must
 
 ghost use mathlib.Core.Path.{_≡_};
-ghost use Rattle.window.specs.Weighing.{weighing};
-ghost use Rattle.window.specs.Answers.{asWeighs};
+ghost use Rattle.window.specs.Evaluation.{evaluate};
+ghost use Rattle.window.specs.Answers.{asEvaluation};
 
 // What a window tells.
-pub enum Weighed {
+pub enum Evaluated {
     Levels { high: Millivolts, low: Millivolts },
     // Refusal 4: not 256 to 1,024 readings.
     WrongLength,
@@ -21,20 +21,20 @@ pub enum Weighed {
 }
 
 // The high and the low level of a window, or the refusal of it.
-pub fn weigh(window: &[i32]) -> Weighed
-    ensures { λ r. ⌜ asWeighs r ≡ weighing (now (window .entry)) ⌝ }
+pub fn evaluate(window: &[i32]) -> Evaluated
+    ensures { λ r. ⌜ asEvaluation r ≡ evaluate (now (window .entry)) ⌝ }
 {
     let n = window.len();
     if n < 256 {
-        return Weighed::WrongLength;
+        return Evaluated::WrongLength;
     }
     if 1024 < n {
-        return Weighed::WrongLength;
+        return Evaluated::WrongLength;
     }
     let ok = readings::all_allowed(window);
     if ok {
         search::levels(window)
     } else {
-        Weighed::OutOfRange
+        Evaluated::OutOfRange
     }
 }

@@ -3,7 +3,7 @@ use units::Millivolts;
 ghost use mathlib.Core.Path.{_≡_};
 ghost use lib.IntN.{pos};
 ghost use lib.ListN.{getD};
-ghost use Rattle.window.specs.Weighing.{readingAllowed, allAllowed};
+ghost use Rattle.window.specs.Evaluation.{readingAllowed, allAllowed};
 
 // The reading at an index, and 0 past the end, where no caller asks.
 pub fn reading(window: &[i32], index: usize) -> Millivolts

@@ -1,26 +1,26 @@
 // The search for the levels: each reading is counted against the window until it has the support that it needs.
-use crate::Weighed;
+use crate::Evaluated;
 use crate::readings::reading;
 use crate::support::near;
 use crate::support::needed;
 use units::Millivolts;
 ghost use mathlib.Core.Path.{_≡_};
-ghost use Rattle.window.specs.Weighing.{supportedLevels};
+ghost use Rattle.window.specs.Evaluation.{supportedLevels};
 ghost use Rattle.window.specs.Search.{inside, widen};
-ghost use Rattle.window.specs.Answers.{asWeighs, asFound};
+ghost use Rattle.window.specs.Answers.{asEvaluation, asFound};
 
-// The levels of the readings weighed so far.
+// The levels of the readings evaluated so far.
 enum Found {
     Nothing,
     Levels { high: Millivolts, low: Millivolts },
 }
 
-fn answer(found: Found) -> Weighed
-    ensures { λ r. ⌜ asWeighs r ≡ asFound found ⌝ }
+fn answer(found: Found) -> Evaluated
+    ensures { λ r. ⌜ asEvaluation r ≡ asFound found ⌝ }
 {
     match found {
-        Found::Nothing => Weighed::Unsupported,
-        Found::Levels { high, low } => Weighed::Levels { high, low },
+        Found::Nothing => Evaluated::Unsupported,
+        Found::Levels { high, low } => Evaluated::Levels { high, low },
     }
 }
 
@@ -55,8 +55,8 @@ fn widened(found: Found, level: Millivolts) -> Found
 }
 
 // The levels of the supported readings. A reading that lies within the levels found so far changes nothing, and is not counted.
-pub fn levels(window: &[i32]) -> Weighed
-    ensures { λ r. ⌜ asWeighs r ≡ supportedLevels (now (window .entry)) ⌝ }
+pub fn levels(window: &[i32]) -> Evaluated
+    ensures { λ r. ⌜ asEvaluation r ≡ supportedLevels (now (window .entry)) ⌝ }
 {
     let n = window.len();
     let wanted = needed(n);

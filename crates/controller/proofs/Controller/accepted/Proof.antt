@@ -1,5 +1,5 @@
 -- What the calls ensure, one after the other (proofs/InTurn.antt).
-use Rattle.controller.specs.View.{view, heardAt}
+use Rattle.controller.specs.View.{view, evaluatedAt}
 use Rattle.controller.proofs.InTurn.{in-turn}
 use Rattle.controller.proofs.Controller.accepted.Statement.{statement}
 use Rattle.controller.proofs.Controller.accepted.Tie as tie
@@ -7,7 +7,7 @@ use Rattle.controller.proofs.Controller.accepted.Tie as tie
 returns : tie.Need-returns
 returns c =
     let a = c .before .before .before .before .before .before .before .before .before .before .before .args in
-    in-turn (heardAt (a .now) (a .event)) (view (a .self))
+    in-turn (evaluatedAt (a .time) (a .event)) (view (a .self))
     _ (c .before .before .before .before .before .before .before .before .before .before .pair .ensures)
     _ (c .before .before .before .before .before .before .before .before .before .is-fault .ensures)
     _ (c .before .before .before .before .before .before .before .before .event .ensures)

@@ -7,12 +7,12 @@ use Rattle.units.proofs.Millis.more_than_ago.Tie as tie
 returns : tie.Need-returns
 returns c =
     let a = c .before .before .before .args in
-    not-more-than (a .self .0) (a .span .0) (a .now .0) (omega arith)
+    not-more-than (a .self .0) (a .span .0) (a .time .0) (omega arith)
 
 returns-2 : tie.Need-returns-2
 returns-2 c =
     let a = c .before .before .before .before .before .before .args in
-    more-than (a .self .0) (a .span .0) (a .now .0) (omega arith)
+    more-than (a .self .0) (a .span .0) (a .time .0) (omega arith)
 
 pub more-than-ago-spec : {M : Type 1} → statement M
 more-than-ago-spec = tie.close (tie.spec returns returns-2)

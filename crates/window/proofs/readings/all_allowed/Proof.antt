@@ -3,7 +3,7 @@ use mathlib.Core.Path.{_≡_, refl, _∙_, sym}
 use Prim.Native.Nat.{_≤_, _-_}
 use native.Mathlib.Omega.{arith}
 use lib.ListN.{length, drop}
-use Rattle.window.specs.Weighing.{allAllowed}
+use Rattle.window.specs.Evaluation.{allAllowed}
 use Rattle.window.proofs.Turns.{allowed-next, allowed-stops, allowed-done}
 use Rattle.window.proofs.readings.all_allowed.Statement.{statement}
 use Rattle.window.proofs.readings.all_allowed.Tie as tie

@@ -5,7 +5,7 @@ use native.Mathlib.Nat.{zero-add}
 use mathlib.Core.Logic.{⊎-elim}
 use lib.ListN.{length, drop}
 use Rattle.window.specs.Support.{supporters, supported}
-use Rattle.window.specs.Weighing.{Weighs, supportedLevels}
+use Rattle.window.specs.Evaluation.{Evaluation, supportedLevels}
 use Rattle.window.specs.Search.{widen, gather}
 use Rattle.window.specs.Answers.{asFound}
 use Rattle.window.specs.declared.search.Found.{Found}
@@ -112,7 +112,7 @@ loop-again-2 c =
           (λ w.
           let passes = enough window x (count .count) (count .j) (count .inv .3) (w .1 .result .0) (w .1 .ensures) (w .0 .taken) (supports .result) (supports .ensures) (sym (w .2 .ensures) ∙ w .3 .taken) (w .4 .taken) in
           ap (λ (f : Found). gather test (asFound f) rest) (w .6)
-          ∙ ap (λ (f : Weighs). gather test f rest) (w .5 .ensures ∙ ap (λ (f : Found). widen (asFound f) x) (count .inv .1))
+          ∙ ap (λ (f : Evaluation). gather test f rest) (w .5 .ensures ∙ ap (λ (f : Found). widen (asFound f) x) (count .inv .1))
           ∙ gather-passed test (asFound (loop .found)) window (loop .i) x (level .ensures) more passes ∙ loop .inv .1)
           (c .count-test .came),
     )

@@ -1,2 +1,0 @@
--- The starred bench figures.
-pub mod Starred

@@ -1,8 +1,0 @@
--- It is the answer to this event.
-use Rattle.rules.specs.Calls.{weighed}
-use Rattle.controller.proofs.clear.Statement.{statement}
-use Rattle.controller.proofs.clear.Tie as tie
-
-pub clear-spec : {M : Type 1} → statement M
-unfolding weighed
-clear-spec = tie.close (tie.spec (λ c κs. tt) (λ c. c .answer .ensures))

@@ -1,0 +1,13 @@
+-- What the calls ensure, put together, is the definition.
+use mathlib.Core.Path.{_∙_}
+use Rattle.rules.specs.Step1Event.{overrunAt, announced}
+use Rattle.events.proofs.measured.Statement.{statement}
+use Rattle.events.proofs.measured.Tie as tie
+
+returns : tie.Need-returns
+unfolding overrunAt announced
+returns c s closed wave overrun =
+    c .judged-over .ensures ∙ rw (c .before .both .ensures, c .before .before .driven .ensures, closed, wave, overrun)
+
+pub measured-spec : {M : Type 1} → statement M
+measured-spec = tie.close (tie.spec (λ c κs. tt) (λ c κs. tt) (λ c κs. tt) returns)

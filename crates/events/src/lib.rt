@@ -1,0 +1,210 @@
+// Step 1 of an accepted call: its event. A call's kind and arguments, and what each kind does.
+use duty::Reading;
+use parts::faults::Faults;
+use parts::moments;
+use parts::moments::Moment;
+use parts::samples;
+use parts::samples::Pair;
+use pilot::verdicts::Verdict;
+use units::Milliamps;
+use units::Millis;
+use units::conditions;
+use window::Evaluated;
+ghost use mathlib.Core.Path.{_≡_};
+ghost use mathlib.Core.Bool.{cond};
+ghost use Rattle.duty.specs.Reading.{readingOf};
+ghost use Rattle.duty.specs.Answers.{asReads};
+ghost use Rattle.window.specs.Answers.{asEvaluation};
+ghost use Rattle.rules.specs.Calls.{sample, isSample, isFault};
+ghost use Rattle.rules.specs.Pairs.{verdict};
+ghost use Rattle.rules.specs.State.{State, empty, startedBy};
+ghost use Rattle.rules.specs.Step1Event.{settledBy, soundBy, limitBy, faultsBy, currentOf, isOver, overrunAt, overrunBy};
+ghost use Rattle.parts.specs.Views.{asMoment, asPair, asFaults};
+ghost use Rattle.events.specs.Views.{asEvent};
+
+pub mod refusals; // refusals.rt: what a call is refused for
+
+// Kind and arguments of a call.
+pub enum Event {
+    Sample(Evaluated),
+    // The depot's limit.
+    Limit(Milliamps),
+    // The largest line current.
+    Measure(Milliamps),
+    // A fault's number.
+    Fault(u32),
+    Clear,
+    Tick,
+}
+
+pub fn is_sample(event: Event) -> bool
+    ensures { λ r. ⌜ r ≡ isSample (asEvent event) ⌝ }
+{
+    match event {
+        Event::Sample(_) => true,
+        Event::Limit(_) => false,
+        Event::Measure(_) => false,
+        Event::Fault(_) => false,
+        Event::Clear => false,
+        Event::Tick => false,
+    }
+}
+
+pub fn is_fault(event: Event) -> bool
+    ensures { λ r. ⌜ r ≡ isFault (asEvent event) ⌝ }
+{
+    match event {
+        Event::Sample(_) => false,
+        Event::Limit(_) => false,
+        Event::Measure(_) => false,
+        Event::Fault(_) => true,
+        Event::Clear => false,
+        Event::Tick => false,
+    }
+}
+
+fn judged(window: Evaluated, wave: u32, ventilation: bool) -> Verdict
+    ensures { λ r. ⌜ ((s : State) → s .wave ≡ wave → s .settings .ventilation ≡ ventilation → r ≡ verdict s (sample (asEvaluation window))) ⌝ }
+{
+    match window {
+        Evaluated::Levels { high, low } => pilot::verdicts::judge(wave, high, low, ventilation),
+        Evaluated::WrongLength => samples::no_verdict(),
+        Evaluated::OutOfRange => samples::no_verdict(),
+        Evaluated::Unsupported => samples::no_verdict(),
+    }
+}
+
+// A sample's verdict: its levels, judged by the wave and the ventilation as the call finds them.
+pub fn verdict_of(event: Event, wave: u32, ventilation: bool) -> Verdict
+    ensures { λ r. ⌜ ((s : State) → s .wave ≡ wave → s .settings .ventilation ≡ ventilation → r ≡ verdict s (asEvent event)) ⌝ }
+{
+    match event {
+        Event::Sample(window) => judged(window, wave, ventilation),
+        Event::Limit(_) => samples::no_verdict(),
+        Event::Measure(_) => samples::no_verdict(),
+        Event::Fault(_) => samples::no_verdict(),
+        Event::Clear => samples::no_verdict(),
+        Event::Tick => samples::no_verdict(),
+    }
+}
+
+// Settling: by a pair in one band.
+pub fn settled_by(pair: Pair, settled: u8) -> u8
+    ensures { λ r. ⌜ r ≡ settledBy (asPair pair) settled ⌝ }
+{
+    let in_one = pair.in_one_band();
+    samples::pick_letter(in_one, pair.this.band, settled)
+}
+
+// The time of the last sound sample.
+pub fn sound_by(time: Millis, pair: Pair, sound: Moment) -> Moment
+    ensures { λ r. ⌜ asMoment r ≡ soundBy (time .0) (asPair pair) (asMoment sound) ⌝ }
+{
+    let is_sound = conditions::both(pair.sampled, pair.this.sound);
+    let here = Moment::set_to(time);
+    moments::pick(is_sound, here, sound)
+}
+
+// Limit stored.
+pub fn limit_by(event: Event, stored: Milliamps) -> Milliamps
+    ensures { λ r. ⌜ r .0 ≡ limitBy (asEvent event) (stored .0) ⌝ }
+{
+    match event {
+        Event::Sample(_) => stored,
+        Event::Limit(given) => given,
+        Event::Measure(_) => stored,
+        Event::Fault(_) => stored,
+        Event::Clear => stored,
+        Event::Tick => stored,
+    }
+}
+
+// Latching by a fault call, and clear.
+pub fn faults_by(event: Event, faults: Faults) -> Faults
+    ensures { λ r. ⌜ asFaults r ≡ faultsBy (asEvent event) (asFaults faults) ⌝ }
+{
+    match event {
+        Event::Sample(_) => faults,
+        Event::Limit(_) => faults,
+        Event::Measure(_) => faults,
+        Event::Fault(kind) => faults.with_kind(kind),
+        Event::Clear => Faults::none(),
+        Event::Tick => faults,
+    }
+}
+
+// The current that a reading tells; 0 where it tells none.
+fn current_of(reading: Reading) -> Milliamps
+    ensures { λ r. ⌜ r .0 ≡ currentOf (asReads reading) ⌝ }
+{
+    match reading {
+        Reading::NoCharging => Milliamps(0),
+        Reading::DigitalOnly => Milliamps(0),
+        Reading::Current(milliamps) => milliamps,
+        Reading::AboveScale => Milliamps(0),
+    }
+}
+
+// More than a tenth above what is announced.
+fn is_over(line: Milliamps, allowed: Milliamps) -> bool
+    ensures { λ r. ⌜ r ≡ isOver (line .0) (allowed .0) ⌝ }
+{
+    let most = 11 * (allowed.0 as u64);
+    let drawn = 10 * (line.0 as u64);
+    most < drawn
+}
+
+// A measure under a driven wave of a closed contactor: the over-run starts unless it runs, or it ends.
+fn overrun_at(time: Millis, line: Milliamps, wave: u32, overrun: Moment) -> Moment
+    ensures { λ r. ⌜ asMoment r ≡ cond (isOver (line .0) (currentOf (readingOf wave))) (startedBy (time .0) (asMoment overrun)) empty ⌝ }
+{
+    let reading = duty::reading_of(wave);
+    let allowed = current_of(reading);
+    let over = is_over(line, allowed);
+    let runs = overrun.started_by(time);
+    let none = Moment::empty();
+    moments::pick(over, runs, none)
+}
+
+// The reading is asked only where the measure is judged.
+fn judged_over(judges: bool, time: Millis, line: Milliamps, wave: u32, overrun: Moment) -> Moment
+    ensures { λ r. ⌜
+        asMoment r
+        ≡ cond judges (cond (isOver (line .0) (currentOf (readingOf wave))) (startedBy (time .0) (asMoment overrun)) empty) (asMoment overrun)
+        ⌝ }
+{
+    if judges {
+        overrun_at(time, line, wave, overrun)
+    } else {
+        overrun
+    }
+}
+
+// A measure is judged where the contactor is closed and the wave driven.
+fn measured(time: Millis, line: Milliamps, closed: bool, wave: u32, overrun: Moment) -> Moment
+    ensures { λ r. ⌜
+        ((s : State) → s .closed ≡ closed → s .wave ≡ wave → s .overrun ≡ asMoment overrun
+        → asMoment r ≡ overrunAt (time .0) (line .0) s)
+        ⌝ }
+{
+    let driven = units::driven(wave);
+    let judges = conditions::both(closed, driven);
+    judged_over(judges, time, line, wave, overrun)
+}
+
+// The over-run after the event: only a measure starts or ends it here.
+pub fn overrun_by(time: Millis, event: Event, closed: bool, wave: u32, overrun: Moment) -> Moment
+    ensures { λ r. ⌜
+        ((s : State) → s .closed ≡ closed → s .wave ≡ wave → s .overrun ≡ asMoment overrun
+        → asMoment r ≡ overrunBy (time .0) (asEvent event) s)
+        ⌝ }
+{
+    match event {
+        Event::Sample(_) => overrun,
+        Event::Limit(_) => overrun,
+        Event::Measure(line) => measured(time, line, closed, wave, overrun),
+        Event::Fault(_) => overrun,
+        Event::Clear => overrun,
+        Event::Tick => overrun,
+    }
+}

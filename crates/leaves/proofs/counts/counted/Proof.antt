@@ -1,8 +1,0 @@
--- Each way through the code is one case of the definition.
-use Rattle.leaves.specs.Counted.{counted}
-use Rattle.leaves.proofs.counts.counted.Statement.{statement}
-use Rattle.leaves.proofs.counts.counted.Tie as tie
-
-pub counted-spec : {M : Type 1} → statement M
-unfolding counted
-counted-spec = tie.close (tie.spec (λ c κs. tt) (λ c. cc) (λ c. cc))

@@ -1,6 +1,0 @@
--- Each way through the code is one case of the definition.
-use Rattle.leaves.proofs.events.judged_over.Statement.{statement}
-use Rattle.leaves.proofs.events.judged_over.Tie as tie
-
-pub judged-over-spec : {M : Type 1} → statement M
-judged-over-spec = tie.close (tie.spec (λ c κs. tt) (λ c. cc) (λ c. cc))

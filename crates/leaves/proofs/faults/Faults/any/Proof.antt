@@ -1,8 +1,0 @@
--- Each way through the code is one case of the definition.
-use Rattle.rules.specs.State.{anyFault}
-use Rattle.leaves.proofs.faults.Faults.any.Statement.{statement}
-use Rattle.leaves.proofs.faults.Faults.any.Tie as tie
-
-pub any-spec : {M : Type 1} → statement M
-unfolding anyFault
-any-spec = tie.close (tie.spec (λ c. cc) (λ c. cc) (λ c. cc) (λ c. cc) (λ c. cc))

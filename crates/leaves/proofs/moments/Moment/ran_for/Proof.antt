@@ -1,8 +1,0 @@
--- Each way through the code is one case of the definition.
-use Rattle.rules.specs.Step2Latches.{ranFor}
-use Rattle.leaves.proofs.moments.Moment.ran_for.Statement.{statement}
-use Rattle.leaves.proofs.moments.Moment.ran_for.Tie as tie
-
-pub ran-for-spec : {M : Type 1} → statement M
-unfolding ranFor
-ran-for-spec = tie.close (tie.spec (λ c κs. tt) (λ c. cc) (λ c. cc))

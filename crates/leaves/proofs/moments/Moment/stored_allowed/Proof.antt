@@ -1,8 +1,0 @@
--- Each way through the code is one case of the definition.
-use Rattle.rules.specs.Lent.{storedAllowed}
-use Rattle.leaves.proofs.moments.Moment.stored_allowed.Statement.{statement}
-use Rattle.leaves.proofs.moments.Moment.stored_allowed.Tie as tie
-
-pub stored-allowed-spec : {M : Type 1} → statement M
-unfolding storedAllowed
-stored-allowed-spec = tie.close (tie.spec (λ c κs. tt) (λ c. cc) (λ c. cc))

@@ -1,6 +1,0 @@
--- Each way through the code is one case of the definition.
-use Rattle.leaves.proofs.replies.digit.Statement.{statement}
-use Rattle.leaves.proofs.replies.digit.Tie as tie
-
-pub digit-spec : {M : Type 1} → statement M
-digit-spec = tie.close (tie.spec (λ c κs. tt) (λ c κs. tt) (λ c κs. tt) (λ c. cc))

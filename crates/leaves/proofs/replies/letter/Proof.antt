@@ -1,6 +1,0 @@
--- Each way through the code is one case of the definition.
-use Rattle.leaves.proofs.replies.letter.Statement.{statement}
-use Rattle.leaves.proofs.replies.letter.Tie as tie
-
-pub letter-spec : {M : Type 1} → statement M
-letter-spec = tie.close (tie.spec (λ c κs. tt) (λ c κs. tt) (λ c. cc))

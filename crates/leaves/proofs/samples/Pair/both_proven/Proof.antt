@@ -1,8 +1,0 @@
--- Each way through the code is one case of the definition.
-use Rattle.rules.specs.Pairs.{bothProven}
-use Rattle.leaves.proofs.samples.Pair.both_proven.Statement.{statement}
-use Rattle.leaves.proofs.samples.Pair.both_proven.Tie as tie
-
-pub both-proven-spec : {M : Type 1} → statement M
-unfolding bothProven
-both-proven-spec = tie.close (tie.spec (λ c κs. tt) (λ c κs. tt) (λ c. cc))

@@ -1,9 +1,0 @@
-// The parts of the controller: the structs that it is made of, and the tests and choices of each step on plain values.
-pub mod counts; // the count of closings
-pub mod events; // the calls' kinds and arguments; step 1
-pub mod faults; // the latched faults; step 2
-pub mod moments; // times and starts that may be empty
-pub mod refusals; // the order of refusals, and their conditions
-pub mod replies; // the reply
-pub mod samples; // this and the previous sample
-pub mod settings; // begin's settings

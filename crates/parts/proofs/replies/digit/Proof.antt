@@ -1,0 +1,6 @@
+-- Each way through the code is one case of the definition.
+use Rattle.parts.proofs.replies.digit.Statement.{statement}
+use Rattle.parts.proofs.replies.digit.Tie as tie
+
+pub digit-spec : {M : Type 1} → statement M
+digit-spec = tie.close (tie.spec (λ c κs. tt) (λ c κs. tt) (λ c κs. tt) (λ c. cc))

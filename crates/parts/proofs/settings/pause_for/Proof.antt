@@ -1,0 +1,8 @@
+-- Each way through the code is one case of the definition.
+use Rattle.rules.specs.Begin.{pauseFor}
+use Rattle.parts.proofs.settings.pause_for.Statement.{statement}
+use Rattle.parts.proofs.settings.pause_for.Tie as tie
+
+pub pause-for-spec : {M : Type 1} → statement M
+unfolding pauseFor
+pause-for-spec = tie.close (tie.spec (λ c κs. tt) (λ c κs. tt) (λ c. cc))

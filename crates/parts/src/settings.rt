@@ -1,0 +1,62 @@
+// Begin's settings: their ranges, and the pause in force.
+use crate::moments;
+use units::Milliamps;
+use units::Millis;
+use units::conditions;
+ghost use mathlib.Core.Path.{_≡_};
+ghost use lib.Dec.{eqb};
+ghost use Rattle.rules.specs.Begin.{ratedAllowed, pauseAllowed, pauseFor};
+ghost use Rattle.parts.specs.Views.{asSettings};
+
+#[repr(C)]
+pub struct Settings {
+    pub rated: Milliamps,
+    // In a controller, as it is in force; as given to begin, 0 asks for 3,000.
+    pub pause: Millis,
+    pub ventilation: bool,
+}
+
+pub fn rated_allowed(rated: Milliamps) -> bool
+    ensures { λ r. ⌜ r ≡ ratedAllowed (rated .0) ⌝ }
+{
+    let not_below = 6000 <= rated.0;
+    let not_above = rated.0 <= 80000;
+    conditions::both(not_below, not_above)
+}
+
+// The range of a pause in force.
+pub fn pause_allowed(pause: Millis) -> bool
+    ensures { λ r. ⌜ r ≡ pauseAllowed (pause .0) ⌝ }
+{
+    let not_below = 1000 <= pause.0;
+    let not_above = pause.0 <= 60000;
+    conditions::both(not_below, not_above)
+}
+
+// 0 asks for the default.
+pub fn asks_default(pause: Millis) -> bool
+    ensures { λ r. ⌜ r ≡ eqb (pause .0) 0 ⌝ }
+{
+    pause.0 == 0
+}
+
+// The pause in force: 0 means 3,000.
+fn pause_for(pause: Millis) -> Millis
+    ensures { λ r. ⌜ r .0 ≡ pauseFor (pause .0) ⌝ }
+{
+    let default = asks_default(pause);
+    moments::pick_time(default, Millis(3000), pause)
+}
+
+// The settings with the pause in force.
+pub fn in_force(given: Settings) -> Settings
+    ensures { λ r. ⌜ asSettings r ≡ record { rated = given .rated .0; pause = pauseFor (given .pause .0); ventilation = given .ventilation } ⌝ }
+{
+    let rated = given.rated;
+    let pause = pause_for(given.pause);
+    Settings {
+        rated: rated,
+        pause: pause,
+        ventilation: given.ventilation,
+    }
+}

@@ -1,0 +1,192 @@
+-- The sequences of document 01, "Bench figures", computed on the definitions.
+use mathlib.Core.Bool.{true, false, Bool, _&&_, _||_, not}
+use mathlib.Core.List.{List, [], _∷_, _++_}
+use mathlib.Core.Path.{_≡_, refl}
+use Prim.Native.Nat.{ℕ, _+_, _≤_, _<_}
+use native.Mathlib.Omega.{arith}
+use lib.Dec.{leb}
+use borrow.Author.Tests.{lt-leb, le-leb, le-ltb}
+use Rattle.pilot.specs.Bands.{bandB, bandC}
+use Rattle.rules.specs.Calls.{limit, measure, tick}
+use Rattle.rules.specs.Reply.{letterF, letterU}
+use Rattle.rules.proofs.rows.Sequences.{Sequence, steadyAt, drivenAt, call, every, row, at32A, charging, LevelCall, Tells, AllTell}
+use Rattle.rules.specs.Answer.{next}
+use Rattle.rules.specs.Lent.{Lent}
+use Rattle.rules.specs.State.{Moment, noFaults, setTo, empty}
+use Rattle.rules.proofs.rows.Sequences.{evaluatedOf, tells-by, computed, lasting}
+
+-- starred: B2 and 533, closed at 40, and open 81 after the last sound sample
+abbrev pub firstCharge : Sequence
+firstCharge =
+    record {
+      start = at32A 0;
+      first = [];
+      entries =
+          row 0 (limit 32000) 0 letterU 0 1000 false 0 0
+          ∷ row 10 (steadyAt 9000) 0 letterU 0 1000 false 0 0
+          ∷ row 20 (steadyAt 9000) 0 bandB 2 533 false 0 0
+          ∷ row 30 (drivenAt 6000) 0 bandB 2 533 false 0 0
+          ∷ row 40 (drivenAt 6000) 0 bandC 2 533 true 0 1
+          ∷ row 50 (drivenAt 9000) 0 bandC 2 533 true 0 1
+          ∷ row 120 tick 0 bandC 2 533 true 0 1
+          ∷ row 121 tick 0 bandC 2 533 false 0 1
+          ∷ [];
+    }
+
+-- two unsound samples open, here at 60
+abbrev pub unsoundTwice : Sequence
+unsoundTwice =
+    record {
+      start = at32A 0;
+      first = charging 0 32000;
+      entries =
+          row 50 (drivenAt 9000) 0 bandC 2 533 true 0 1
+          ∷ row 60 (drivenAt 9000) 0 bandB 2 533 false 0 1
+          ∷ [];
+    }
+
+-- then the next closing waits for the pause: it comes at 3,060
+abbrev pub secondCharge : Sequence
+secondCharge =
+    record {
+      start = at32A 0;
+      first = charging 0 32000 ++ (call 50 (drivenAt 9000) ∷ call 60 (drivenAt 9000) ∷ every 298 10 70 (drivenAt 6000));
+      entries =
+          row 3050 (drivenAt 6000) 0 bandC 2 533 false 0 1
+          ∷ row 3060 (drivenAt 6000) 0 bandC 2 533 true 0 2
+          ∷ [];
+    }
+
+-- limit 0 at 5,000 stops the van: closed at 7,990, open at 8,000
+abbrev pub limitWithdrawn : Sequence
+limitWithdrawn =
+    record {
+      start = at32A 4900;
+      first = charging 4900 32000 ++ (every 5 10 4950 (drivenAt 6000) ++ (call 5000 (limit 0) ∷ every 298 10 5010 (steadyAt 6000)));
+      entries =
+          row 7990 (steadyAt 6000) 0 bandC 1 1000 true 0 1
+          ∷ row 8000 (steadyAt 6000) 0 bandC 1 1000 false 0 1
+          ∷ [];
+    }
+
+-- at 533 a measure of 35,179 starts an over-run: fault 2 at 5,000 after it, not at 4,999
+abbrev pub overRun : Sequence
+overRun =
+    record {
+      start = at32A 0;
+      first = charging 0 32000 ++ (call 100 (measure 35179) ∷ call 110 (drivenAt 6000) ∷ every 62 80 190 (drivenAt 6000));
+      entries =
+          row 5099 tick 0 bandC 2 533 true 0 1
+          ∷ row 5100 tick 0 letterF 0 0 false 2 1
+          ∷ [];
+    }
+
+-- 35,178 starts none
+abbrev pub noOverRun : Sequence
+noOverRun =
+    record {
+      start = at32A 0;
+      first = charging 0 32000 ++ (call 100 (measure 35178) ∷ call 110 (drivenAt 6000) ∷ every 62 80 190 (drivenAt 6000));
+      entries =
+          row 5099 tick 0 bandC 2 533 true 0 1
+          ∷ row 5100 tick 0 bandC 2 533 true 0 1
+          ∷ [];
+    }
+
+abbrev pub benchRows : List Sequence
+benchRows = firstCharge ∷ unsoundTwice ∷ secondCharge ∷ limitWithdrawn ∷ overRun ∷ noOverRun ∷ []
+
+-- a post at 32 A with samples that are proven in C, the last at a time
+abbrev sampling : Bool → Moment → Moment → ℕ → Lent
+sampling closed opening overrun t =
+    record {
+      state = record {
+        settings = record { rated = 32000; pause = 3000; ventilation = false };
+        limit = 32000;
+        wave = 533;
+        closed = closed;
+        settled = bandC;
+        faults = noFaults;
+        last = t;
+        sound = setTo t;
+        opening = opening;
+        overrun = overrun;
+        stop = empty;
+        previous = record { kept = true; verdict = record { band = bandC; sound = true; proven = true; diodebad = false } };
+      };
+      closings = 1;
+    }
+
+-- opened at 60, and the pause is not over
+waits : (t : ℕ) → 60 ≤ t → t + 10 < 3060
+    → next (sampling false (setTo 60) empty t) (evaluatedOf (call (t + 10) (drivenAt 6000))) ≡ sampling false (setTo 60) empty (t + 10)
+unfolding computed
+waits t late early =
+    rw (
+      le-ltb 1000000000000 (t + 10) (omega arith),
+      le-ltb (t + 10) t (omega arith),
+      le-leb t t (omega arith),
+      le-leb 60 t late,
+      lt-leb 3060 (t + 10) early,
+    )
+
+-- closed, and no over-run is 5,000 old
+holds : (overrun : Moment) (t : ℕ) → t + 80 ≤ 1000000000000 → not (overrun .set) || leb (overrun .time) t ≡ true
+    → overrun .set && leb (overrun .time + 5000) (t + 80) ≡ false
+    → next (sampling true empty overrun t) (evaluatedOf (call (t + 80) (drivenAt 6000))) ≡ sampling true empty overrun (t + 80)
+unfolding computed
+holds overrun t within stored young =
+    rw (
+      le-ltb 1000000000000 (t + 80) within,
+      le-ltb (t + 80) t (omega arith),
+      le-leb t t (omega arith),
+      stored,
+      young,
+      le-ltb (t + 80 + 80) (t + 80) (omega arith),
+    )
+
+-- starred
+pub first-charge : Tells firstCharge
+unfolding computed
+first-charge = tells-by firstCharge (at32A 0) refl refl refl refl
+
+unsound-twice : Tells unsoundTwice
+unfolding computed
+unsound-twice = tells-by unsoundTwice (sampling true empty empty 40) refl refl refl refl
+
+second-charge : Tells secondCharge
+unfolding computed
+second-charge =
+    tells-by secondCharge (sampling false (setTo 60) empty 3040) refl refl
+    (lasting (sampling false (setTo 60) empty) 10 (drivenAt 6000) 60 3060 waits (at32A 0)
+    (charging 0 32000 ++ (call 50 (drivenAt 9000) ∷ call 60 (drivenAt 9000) ∷ call 70 (drivenAt 6000) ∷ call 80 (drivenAt 6000) ∷ []))
+    296 80 refl (omega arith) (omega arith))
+    refl
+
+limit-withdrawn : Tells limitWithdrawn
+unfolding computed
+limit-withdrawn = tells-by limitWithdrawn _ refl refl refl refl
+
+-- a measure at 100, a sample at 110, and then one every 80
+measured : ℕ → List LevelCall
+measured line = charging 0 32000 ++ (call 100 (measure line) ∷ call 110 (drivenAt 6000) ∷ [])
+
+over-run : Tells overRun
+unfolding computed measured
+over-run =
+    tells-by overRun (sampling true empty (setTo 100) 5070) refl refl
+    (lasting (sampling true empty (setTo 100)) 80 (drivenAt 6000) 100 5100
+    (λ t late early. holds (setTo 100) t (omega arith) (le-leb 100 t late) (lt-leb 5100 (t + 80) early)) (at32A 0)
+    (measured 35179) 62 110 refl (omega arith) (omega arith))
+    refl
+
+no-over-run : Tells noOverRun
+unfolding computed measured
+no-over-run =
+    tells-by noOverRun (sampling true empty empty 5070) refl refl
+    (lasting (sampling true empty empty) 80 (drivenAt 6000) 0 1000000000000
+    (λ t late early. holds empty t (omega arith) refl refl) (at32A 0) (measured 35178) 62 110 refl (omega arith) (omega arith))
+    refl
+
+pub bench-rows : AllTell benchRows
+bench-rows = (first-charge, (unsound-twice, (second-charge, (limit-withdrawn, (over-run, (no-over-run, tt))))))

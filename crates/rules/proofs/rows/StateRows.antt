@@ -1,0 +1,89 @@
+-- What is kept though no reply shows it.
+use mathlib.Core.Path.{_≡_, refl, ap}
+use mathlib.Core.Bool.{Bool, true, false}
+use mathlib.Core.List.{List, [], _∷_, map}
+use Prim.Native.Nat.{ℕ}
+use Rattle.pilot.specs.Bands.{bandC}
+use Rattle.rules.specs.Answer.{lentAfter}
+use Rattle.rules.specs.Begin.{fresh, pauseFor}
+use Rattle.rules.specs.Calls.{measure, fault, tick}
+use Rattle.rules.specs.Lent.{Lent}
+use Rattle.rules.proofs.rows.Sequences.{LevelCall, callOf, call, at80A}
+use Rattle.rules.specs.State.{Moment, Faults, noFaults, empty, setTo, forgotten}
+use Rattle.rules.proofs.rows.Sequences.{lent-on, computed}
+
+-- begin at 5, with pause 0 and ventilation
+abbrev pub FreshRow : Type 0
+FreshRow =
+    fresh (record { time = 5; rated = 32000; pause = 0; ventilation = true })
+    ≡ record {
+      settings = record { rated = 32000; pause = 3000; ventilation = true };
+      limit = 0;
+      wave = 1000;
+      closed = false;
+      settled = 0;
+      faults = record { diode = false; overcurrent = false; residual = false; welded = false; temperature = false };
+      last = 5;
+      sound = record { set = false; time = 0 };
+      opening = record { set = false; time = 0 };
+      overrun = record { set = false; time = 0 };
+      stop = record { set = false; time = 0 };
+      previous = record { kept = false; verdict = record { band = 0; sound = false; proven = false; diodebad = false } };
+    }
+
+-- a fault call leaves the other faults latched
+abbrev pub faultCalls : List LevelCall
+faultCalls = call 10 (fault 3) ∷ call 20 (fault 4) ∷ call 30 (fault 5) ∷ call 40 (fault 3) ∷ []
+
+abbrev pub FaultsRow : Type 0
+FaultsRow =
+    lentAfter (at80A 0) (map callOf faultCalls) .state .faults
+    ≡ record { diode = false; overcurrent = false; residual = true; welded = true; temperature = true }
+
+-- a controller that no list leads to, in range: wave, contactor, faults and stop as given
+abbrev pub unreached : ℕ → Bool → Faults → Moment → Lent
+unreached wave closed faults stop =
+    record {
+      state = record {
+        settings = record { rated = 80000; pause = 3000; ventilation = false };
+        limit = 80000;
+        wave = wave;
+        closed = closed;
+        settled = bandC;
+        faults = faults;
+        last = 100;
+        sound = setTo 100;
+        opening = empty;
+        overrun = empty;
+        stop = stop;
+        previous = forgotten;
+      };
+      closings = 7;
+    }
+
+-- a measure is judged by the wave as the call finds it: a steady one starts no over-run, though step 3 then drives it
+abbrev pub SteadyRow : Type 0
+SteadyRow = lentAfter (unreached 1000 true noFaults empty) (map callOf (call 110 (measure 200000) ∷ [])) .state .overrun ≡ empty
+
+-- a wave of 0 neither starts nor ends a stop
+abbrev pub residual : Faults
+residual = record { diode = false; overcurrent = false; residual = true; welded = false; temperature = false }
+
+abbrev pub StopRow : Type 0
+StopRow = lentAfter (unreached 0 false residual (setTo 50)) (map callOf (call 110 tick ∷ [])) .state .stop ≡ setTo 50
+
+pub fresh-row : FreshRow
+unfolding pauseFor fresh
+fresh-row = refl
+
+pub faults-row : FaultsRow
+unfolding computed
+faults-row = ap (λ l. l .state .faults) (lent-on (at80A 0) faultCalls refl)
+
+pub steady-row : SteadyRow
+unfolding computed
+steady-row = ap (λ l. l .state .overrun) (lent-on (unreached 1000 true noFaults empty) (call 110 (measure 200000) ∷ []) refl)
+
+pub stop-row : StopRow
+unfolding computed
+stop-row = ap (λ l. l .state .stop) (lent-on (unreached 0 false residual (setTo 50)) (call 110 tick ∷ []) refl)
