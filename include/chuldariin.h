@@ -1,10 +1,10 @@
 /* Chuldariin: the control pilot controller of an AC charging post (IEC 61851-1 Annex A, Mode 3).
  *
- * The host owns a struct chuldariin_controller, and every call gets its address. Every call returns
- * a finished reply: accepted (refusal 0), or refused with a number from CHULDARIIN_REFUSED_... below,
- * and then the controller is as it was. Nothing is allocated, nothing is kept elsewhere, nothing
- * blocks. A sample makes about a million comparisons at the most (1,024 readings, none supported);
- * the other calls take about 700 instructions, a measure up to 1,200.
+ * The host owns a struct chuldariin_controller, and every call gets its address. Every call returns a
+ * finished reply: accepted (refusal 0), or refused with a number from CHULDARIIN_REFUSED_... below, and
+ * then the controller is as it was. Nothing is allocated, nothing is kept elsewhere, nothing blocks. A
+ * sample makes about a million comparisons at the most (1,024 readings, none supported). The other
+ * calls take about 700 instructions, a measure up to 1,200.
  *
  *     struct chuldariin_controller post = {0};
  *     struct chuldariin_reply r = chuldariin_begin(&post, now_ms, 32000, 0, false);
@@ -18,25 +18,37 @@
  *     drive_pilot(judged ? r.wave : 0);           // 0: steady -12 V, the post is not available
  *     drive_contactor(judged && r.closed);        // closed by an accepted reply only
  *
- * Call at least every 20 ms. The rule of 80 ms without a sound sample, like every other, is judged in
- * accepted calls only. So a host whose sample was refused ticks, and a host whose tick is refused too
- * opens the contactor by itself: its clock is wrong (2, 3), or something wrote into the controller (1).
- *
- * What the host owes. These hold of any C call, and no reply can tell that one was broken:
- *   - the pointers are not null and are aligned for what they point at;
- *   - the controller and the readings are initialised ({0} will do before begin), the bools in the
- *     controller are 0 or 1 and `ventilation` is true or false;
+ * What the calls ask of their arguments: nothing of any value. All times, numbers and readings are
+ * answered, in any order, and so is a controller whose fields were altered. What the types of C can't
+ * give, the host owes, and no reply can tell that it was broken:
+ *   - the pointers are valid, not null, and aligned for what they point at;
+ *   - the controller and the readings are initialised ({0} will do before begin), and bools are 0 or 1;
  *   - `readings` points at `count` readings, and none of them lies inside the controller;
- *   - while a call runs nothing else writes the readings (a converter's DMA, an interrupt), and
- *     nothing else reads or writes the controller: a host with several threads or interrupts locks.
- * All else is answered: any times, numbers and readings, in any order, and a controller whose
- * fields were altered.
+ *   - while a call runs nothing else writes the readings (a converter's DMA, an interrupt), and nothing
+ *     else reads or writes the controller: a host with several threads or interrupts locks.
  *
- * Link with libpost.a, for x86-64 Linux (System V calling convention).
+ * What the host owes besides (README has more; tables and sequences are those of IEC 61851-1 Annex A,
+ * draft for Edition 3):
+ *   - It calls at least every 20 ms. It ticks after a refused sample. After a refused tick it opens the
+ *     contactor on its own: the clock is wrong (2, 3), or something wrote into the controller (1).
+ *   - It keeps one controller, and nothing but the calls writes it.
+ *   - A window lies wholly after the wave that was last commanded, and windows do not overlap. Else two
+ *     samples in a row can lack the -12 V of the new wave: fault 1, in a step from B1 to B2.
+ *   - The 100 ms of table A3.4 include the window and the contactor's travel. At worst these add up: from
+ *     the window's first reading to its call, 81 ms, the time to the next call, and the travel. With a
+ *     call every 20 ms and windows of 20 ms that is too long: choose short windows.
+ *   - Whoever makes the limit calls waits: 3 s after a wave was withdrawn in state B (sequence 9.2), and
+ *     5 s between two changes of the duty (sequence 6). The controller delays no limit.
+ *   - Signals of digital communication (148 kHz and more, table A2.1) are filtered before the converter.
+ *   - It decides when to call clear. A latched fault, 1 and 2 too, stays when the van is unplugged.
+ *
+ * The header takes C11 (_Static_assert, _Alignof) or C++11. Link with libchuldariin.a, for x86-64 Linux
+ * (System V calling convention).
  */
 #ifndef CHULDARIIN_H
 #define CHULDARIIN_H
 
+/* C11 or C++11, or later. */
 #include <stdbool.h>
 #include <stddef.h>
 #include <stdint.h>
@@ -166,14 +178,14 @@ struct chuldariin_reply {
 };
 
 /* What a van reads from a duty. */
-struct chuldariin_told_reading {
+struct chuldariin_reading_reply {
     uint8_t refusal;  /* 0, or 9 */
     uint8_t kind;     /* CHULDARIIN_READS_... */
     uint32_t current; /* mA; 0 for the other kinds */
 };
 
 /* The greatest duty for an available current. */
-struct chuldariin_told_duty {
+struct chuldariin_duty_reply {
     uint8_t refusal; /* 0, or 10 */
     uint32_t duty;   /* tenths of a percent; 0 if refused */
 };
@@ -200,8 +212,8 @@ CHULDARIIN_ASSERT(offsetof(struct chuldariin_reply, wave) == 4);
 CHULDARIIN_ASSERT(offsetof(struct chuldariin_reply, closed) == 8);
 CHULDARIIN_ASSERT(offsetof(struct chuldariin_reply, fault) == 9);
 CHULDARIIN_ASSERT(offsetof(struct chuldariin_reply, closings) == 12);
-CHULDARIIN_ASSERT(sizeof(struct chuldariin_told_reading) == 8);
-CHULDARIIN_ASSERT(sizeof(struct chuldariin_told_duty) == 8);
+CHULDARIIN_ASSERT(sizeof(struct chuldariin_reading_reply) == 8);
+CHULDARIIN_ASSERT(sizeof(struct chuldariin_duty_reply) == 8);
 
 /* ---- The calls. Times are in milliseconds, 0 to 1,000,000,000,000, and never go back but at begin. ---- */
 
@@ -212,12 +224,15 @@ CHULDARIIN_ASSERT(sizeof(struct chuldariin_told_duty) == 8);
 struct chuldariin_reply chuldariin_begin(struct chuldariin_controller *c, uint64_t time, uint32_t rated,
                                          uint64_t pause, bool ventilation);
 
-/* A window of 256 to 1,024 readings of the pilot line, -15,000 to 15,000 mV, only read.
- * It should span whole periods of the wave. Refused: 3, 2, 1, 4, 5, 6. */
+/* A window of 256 to 1,024 readings of the pilot line, -15,000 to 15,000 mV, only read. It is judged
+ * under the wave that was commanded before this call, so all its readings come after that command. It
+ * spans whole periods of the wave, and shares no reading with another window. After 4, 5 or 6: tick.
+ * Refused: 3, 2, 1, 4, 5, 6. */
 struct chuldariin_reply chuldariin_sample(struct chuldariin_controller *c, uint64_t time,
                                           const int32_t *readings, size_t count);
 
-/* The depot's limit, 0 to 80,000 mA. Refused: 3, 2, 1, 7. */
+/* The depot's limit, 0 to 80,000 mA. It acts in this call: nothing is delayed. Below 6,000 no wave is
+ * driven, and a closed contactor opens once that has lasted 3 s. Refused: 3, 2, 1, 7. */
 struct chuldariin_reply chuldariin_limit(struct chuldariin_controller *c, uint64_t time, uint32_t current);
 
 /* The largest line current measured, 0 to 200,000 mA. Refused: 3, 2, 1, 7. */
@@ -226,19 +241,19 @@ struct chuldariin_reply chuldariin_measure(struct chuldariin_controller *c, uint
 /* A fault from outside: CHULDARIIN_FAULT_RESIDUAL, _WELDED or _TEMPERATURE. Refused: 3, 2, 1, 8. */
 struct chuldariin_reply chuldariin_fault(struct chuldariin_controller *c, uint64_t time, uint32_t kind);
 
-/* Drops every latched fault. Refused: 3, 2, 1. */
+/* Drops every latched fault. Nothing else does but begin: an unplugged van does not. Refused: 3, 2, 1. */
 struct chuldariin_reply chuldariin_clear(struct chuldariin_controller *c, uint64_t time);
 
-/* Nothing but the time. Refused: 3, 2, 1. */
+/* Nothing but the time. If this is refused, open the contactor. Refused: 3, 2, 1. */
 struct chuldariin_reply chuldariin_tick(struct chuldariin_controller *c, uint64_t time);
 
 /* ---- Without a controller. ---- */
 
 /* What a van reads from a duty in tenths of a percent. Refused: 9. */
-struct chuldariin_told_reading chuldariin_reading(uint32_t duty);
+struct chuldariin_reading_reply chuldariin_reading(uint32_t duty);
 
 /* The greatest duty, 100 to 960, that announces no more than the available current. Refused: 10. */
-struct chuldariin_told_duty chuldariin_duty(uint32_t current);
+struct chuldariin_duty_reply chuldariin_duty(uint32_t current);
 
 #undef CHULDARIIN_ASSERT
 #undef CHULDARIIN_ALIGNOF

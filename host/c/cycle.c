@@ -146,7 +146,7 @@ static void before_any_begin(void) {
 }
 
 static void duties(void) {
-    struct chuldariin_told_reading r = chuldariin_reading(533);
+    struct chuldariin_reading_reply r = chuldariin_reading(533);
     EXPECT(r.refusal == 0 && r.kind == CHULDARIIN_READS_CURRENT && r.current == 31980);
     EXPECT(chuldariin_reading(79).kind == CHULDARIIN_READS_NO_CHARGING);
     EXPECT(chuldariin_reading(80).current == 6000 && chuldariin_reading(970).current == 80000);

@@ -1,4 +1,4 @@
-//! Links the proved archive, libpost.a, which `rt staticlib post` writes to target/staticlib/ at the top of the repository.
+//! Links the proved archive, libchuldariin.a, which `rt staticlib chuldariin` writes to target/staticlib/ at the top of the repository.
 //! `CHULDARIIN_LIB` names another folder.
 use std::env;
 use std::path::PathBuf;
@@ -15,22 +15,22 @@ fn main() {
         env::var("CARGO_CFG_TARGET_OS"),
     );
     println!("cargo:rerun-if-env-changed=CHULDARIIN_LIB");
-    let archive = match folder.join("libpost.a").canonicalize() {
+    let archive = match folder.join("libchuldariin.a").canonicalize() {
         Ok(archive) => archive,
         Err(_) => fail(&format!(
-            "{} is missing: run `rt staticlib post` at the top of the repository, or set CHULDARIIN_LIB to the absolute path of the folder that has libpost.a",
-            folder.join("libpost.a").display()
+            "{} is missing: run `rt staticlib chuldariin` at the top of the repository, or set CHULDARIIN_LIB to the absolute path of the folder that has libchuldariin.a",
+            folder.join("libchuldariin.a").display()
         )),
     };
     if target != (Ok("x86_64".to_string()), Ok("linux".to_string())) {
-        fail("libpost.a is for x86-64 Linux alone");
+        fail("libchuldariin.a is for x86-64 Linux alone");
     }
     println!("cargo:rerun-if-changed={}", archive.display());
     println!(
         "cargo:rustc-link-search=native={}",
         archive.parent().expect("a file has a folder").display()
     );
-    println!("cargo:rustc-link-lib=static=post");
+    println!("cargo:rustc-link-lib=static=chuldariin");
 }
 
 fn fail(why: &str) -> ! {

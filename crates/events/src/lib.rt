@@ -12,13 +12,12 @@ use units::conditions;
 use window::Evaluated;
 ghost use mathlib.Core.Path.{_≡_};
 ghost use mathlib.Core.Bool.{cond};
-ghost use Rattle.duty.specs.Reading.{readingOf};
 ghost use Rattle.duty.specs.Answers.{asReads};
 ghost use Rattle.window.specs.Answers.{asEvaluation};
 ghost use Rattle.rules.specs.Calls.{sample, isSample, isFault};
 ghost use Rattle.rules.specs.Pairs.{verdict};
-ghost use Rattle.rules.specs.State.{State, empty, startedBy};
-ghost use Rattle.rules.specs.Step1Event.{settledBy, soundBy, limitBy, faultsBy, currentOf, isOver, overrunAt, overrunBy};
+ghost use Rattle.rules.specs.State.{State};
+ghost use Rattle.rules.specs.Step1Event.{settledBy, soundBy, limitBy, faultsBy, currentOf, announced, isOver, overrunJudged, overrunAt, overrunBy};
 ghost use Rattle.parts.specs.Views.{asMoment, asPair, asFaults};
 ghost use Rattle.events.specs.Views.{asEvent};
 
@@ -156,7 +155,7 @@ fn is_over(line: Milliamps, allowed: Milliamps) -> bool
 
 // A measure under a driven wave of a closed contactor: the over-run starts unless it runs, or it ends.
 fn overrun_at(time: Millis, line: Milliamps, wave: u32, overrun: Moment) -> Moment
-    ensures { λ r. ⌜ asMoment r ≡ cond (isOver (line .0) (currentOf (readingOf wave))) (startedBy (time .0) (asMoment overrun)) empty ⌝ }
+    ensures { λ r. ⌜ asMoment r ≡ overrunJudged (time .0) (line .0) (announced wave) (asMoment overrun) ⌝ }
 {
     let reading = duty::reading_of(wave);
     let allowed = current_of(reading);
@@ -168,10 +167,7 @@ fn overrun_at(time: Millis, line: Milliamps, wave: u32, overrun: Moment) -> Mome
 
 // The reading is asked only where the measure is judged.
 fn judged_over(judges: bool, time: Millis, line: Milliamps, wave: u32, overrun: Moment) -> Moment
-    ensures { λ r. ⌜
-        asMoment r
-        ≡ cond judges (cond (isOver (line .0) (currentOf (readingOf wave))) (startedBy (time .0) (asMoment overrun)) empty) (asMoment overrun)
-        ⌝ }
+    ensures { λ r. ⌜ asMoment r ≡ cond judges (overrunJudged (time .0) (line .0) (announced wave) (asMoment overrun)) (asMoment overrun) ⌝ }
 {
     if judges {
         overrun_at(time, line, wave, overrun)

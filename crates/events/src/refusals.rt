@@ -8,11 +8,11 @@ use units::conditions;
 use window::Evaluated;
 ghost use mathlib.Core.Path.{_≡_};
 ghost use mathlib.Core.Bool.{cond};
-ghost use lib.Dec.{leb, ltb};
+ghost use Rattle.rules.specs.Calls.{limit, measure, fault};
 ghost use Rattle.window.specs.Answers.{asEvaluation};
-ghost use Rattle.rules.specs.Begin.{largestTime, beginRefusal};
-ghost use Rattle.rules.specs.Lent.{mostClosings, waveAllowed};
-ghost use Rattle.rules.specs.Refusals.{orElse, windowRefusal, kindAllowed, limitAllowed, measureAllowed, argumentRefusal};
+ghost use Rattle.rules.specs.Begin.{tooLate, beginRefusal};
+ghost use Rattle.rules.specs.Lent.{countAllowed, waveAllowed};
+ghost use Rattle.rules.specs.Refusals.{orElse, timeRefusal, windowRefusal, kindAllowed, limitAllowed, measureAllowed, argumentRefusal};
 ghost use Rattle.parts.specs.Views.{beginsWith};
 ghost use Rattle.events.specs.Views.{asEvent};
 
@@ -51,14 +51,14 @@ fn first_of(three: bool, two: bool) -> u8
 
 // Beyond the scale of times.
 pub fn too_late(time: Millis) -> bool
-    ensures { λ r. ⌜ r ≡ ltb largestTime (time .0) ⌝ }
+    ensures { λ r. ⌜ r ≡ tooLate (time .0) ⌝ }
 {
     Millis(1000000000000).before(time)
 }
 
 // 3: beyond the scale of times; 2: earlier than the last accepted call.
 pub fn time_refusal(last: Millis, time: Millis) -> u8
-    ensures { λ r. ⌜ r ≡ cond (ltb largestTime (time .0)) 3 (cond (ltb (time .0) (last .0)) 2 0) ⌝ }
+    ensures { λ r. ⌜ r ≡ timeRefusal (last .0) (time .0) ⌝ }
 {
     let late = too_late(time);
     let back = time.before(last);
@@ -97,7 +97,7 @@ pub fn wave_allowed(wave: u32) -> bool
 
 // The closings of a lent controller.
 pub fn count_allowed(closings: u32) -> bool
-    ensures { λ r. ⌜ r ≡ leb closings mostClosings ⌝ }
+    ensures { λ r. ⌜ r ≡ countAllowed closings ⌝ }
 {
     closings <= 1000000001
 }
@@ -115,21 +115,21 @@ fn window_refusal(window: Evaluated) -> u8
 }
 
 fn limit_refusal(current: Milliamps) -> u8
-    ensures { λ r. ⌜ r ≡ cond (limitAllowed (current .0)) 0 7 ⌝ }
+    ensures { λ r. ⌜ r ≡ argumentRefusal (limit (current .0)) ⌝ }
 {
     let allowed = limit_allowed(current);
     number_unless(allowed, 7)
 }
 
 fn measure_refusal(current: Milliamps) -> u8
-    ensures { λ r. ⌜ r ≡ cond (measureAllowed (current .0)) 0 7 ⌝ }
+    ensures { λ r. ⌜ r ≡ argumentRefusal (measure (current .0)) ⌝ }
 {
     let allowed = measure_allowed(current);
     number_unless(allowed, 7)
 }
 
 fn kind_refusal(kind: u32) -> u8
-    ensures { λ r. ⌜ r ≡ cond (kindAllowed kind) 0 8 ⌝ }
+    ensures { λ r. ⌜ r ≡ argumentRefusal (fault kind) ⌝ }
 {
     let allowed = kind_allowed(kind);
     number_unless(allowed, 8)

@@ -5,6 +5,7 @@ ghost use mathlib.Core.Bool.{_||_};
 ghost use lib.Dec.{eqb};
 ghost use Rattle.rules.specs.State.{noFaults, anyFault};
 ghost use Rattle.rules.specs.Step1Event.{withKind};
+ghost use Rattle.rules.specs.Step2Latches.{withLatches};
 ghost use Rattle.rules.specs.Reply.{faultShown};
 ghost use Rattle.parts.specs.Views.{asFaults};
 
@@ -70,16 +71,7 @@ impl Faults {
 
     // With 1 (no diode) and 2 (over-current) as they latch.
     pub fn with_latches(self, diode: bool, overcurrent: bool) -> Faults
-        ensures { λ r. ⌜
-            asFaults r
-            ≡ record {
-              diode = self .diode || diode;
-              overcurrent = self .overcurrent || overcurrent;
-              residual = self .residual;
-              welded = self .welded;
-              temperature = self .temperature;
-            }
-            ⌝ }
+        ensures { λ r. ⌜ asFaults r ≡ withLatches diode overcurrent (asFaults self) ⌝ }
     {
         let one = conditions::either(self.diode, diode);
         let two = conditions::either(self.overcurrent, overcurrent);

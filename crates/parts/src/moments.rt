@@ -2,10 +2,8 @@
 use units::Millis;
 use units::conditions;
 ghost use mathlib.Core.Path.{_≡_};
-ghost use mathlib.Core.Bool.{true, cond};
-ghost use Prim.Native.Nat.{_+_};
-ghost use lib.Dec.{leb, ltb};
-ghost use Rattle.rules.specs.State.{empty, setTo, startedBy};
+ghost use mathlib.Core.Bool.{cond};
+ghost use Rattle.rules.specs.State.{empty, setTo, startedBy, neverOrAgo, neverOrLongerAgo};
 ghost use Rattle.rules.specs.Step2Latches.{ranFor};
 ghost use Rattle.rules.specs.Lent.{storedAllowed};
 ghost use Rattle.parts.specs.Views.{asMoment};
@@ -57,7 +55,7 @@ impl Moment {
 
     // No such time yet, or it lies that long ago or longer.
     pub fn none_or_at_least_ago(self, span: Millis, time: Millis) -> bool
-        ensures { λ r. ⌜ r ≡ cond (self .set) (leb (self .time .0 + span .0) (time .0)) true ⌝ }
+        ensures { λ r. ⌜ r ≡ neverOrAgo (span .0) (time .0) (asMoment self) ⌝ }
     {
         let ago = self.time.at_least_ago(span, time);
         if self.set { ago } else { true }
@@ -65,7 +63,7 @@ impl Moment {
 
     // No such time yet, or it lies longer ago than that.
     pub fn none_or_more_than_ago(self, span: Millis, time: Millis) -> bool
-        ensures { λ r. ⌜ r ≡ cond (self .set) (ltb (self .time .0 + span .0) (time .0)) true ⌝ }
+        ensures { λ r. ⌜ r ≡ neverOrLongerAgo (span .0) (time .0) (asMoment self) ⌝ }
     {
         let ago = self.time.more_than_ago(span, time);
         if self.set { ago } else { true }

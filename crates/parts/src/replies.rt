@@ -2,13 +2,9 @@
 use crate::samples;
 use units::conditions;
 ghost use mathlib.Core.Path.{_≡_};
-ghost use mathlib.Core.Bool.{_||_, cond};
-ghost use lib.Dec.{eqb};
-ghost use Rattle.units.specs.Wave.{driven};
-ghost use Rattle.pilot.specs.Bands.{bandE};
+ghost use mathlib.Core.Bool.{cond};
 ghost use Rattle.rules.specs.Answer.{alone};
-ghost use Rattle.rules.specs.Step3Wave.{isLetter};
-ghost use Rattle.rules.specs.Reply.{letterF, letterU};
+ghost use Rattle.rules.specs.Reply.{letterF, letterU, letter, digit};
 ghost use Rattle.parts.specs.Views.{asReply};
 
 #[repr(C)]
@@ -39,7 +35,7 @@ fn letter_by(faulted: bool, known: bool, settled: u8) -> u8
 
 // F under a fault, and U where nothing is settled.
 pub fn letter(faulted: bool, settled: u8) -> u8
-    ensures { λ r. ⌜ r ≡ cond faulted letterF (cond (isLetter settled) settled letterU) ⌝ }
+    ensures { λ r. ⌜ r ≡ letter faulted settled ⌝ }
 {
     let known = samples::is_letter(settled);
     letter_by(faulted, known, settled)
@@ -59,7 +55,7 @@ fn digit_by(without: bool, driven: bool) -> u8
 
 // 0 for U, E and F, else 2 with a driven wave and 1 without.
 pub fn digit(letter: u8, wave: u32) -> u8
-    ensures { λ r. ⌜ r ≡ cond (eqb letter letterU || (eqb letter bandE || eqb letter letterF)) 0 (cond (driven wave) 2 1) ⌝ }
+    ensures { λ r. ⌜ r ≡ digit letter wave ⌝ }
 {
     let driven = units::driven(wave);
     let u = letter == b'U';

@@ -5,7 +5,7 @@ use units::Millis;
 use units::conditions;
 ghost use mathlib.Core.Path.{_≡_};
 ghost use lib.Dec.{eqb};
-ghost use Rattle.rules.specs.Begin.{ratedAllowed, pauseAllowed, pauseFor};
+ghost use Rattle.rules.specs.Begin.{ratedAllowed, pauseAllowed, pauseFor, inForce};
 ghost use Rattle.parts.specs.Views.{asSettings};
 
 #[repr(C)]
@@ -50,7 +50,7 @@ fn pause_for(pause: Millis) -> Millis
 
 // The settings with the pause in force.
 pub fn in_force(given: Settings) -> Settings
-    ensures { λ r. ⌜ asSettings r ≡ record { rated = given .rated .0; pause = pauseFor (given .pause .0); ventilation = given .ventilation } ⌝ }
+    ensures { λ r. ⌜ asSettings r ≡ inForce (asSettings given) ⌝ }
 {
     let rated = given.rated;
     let pause = pause_for(given.pause);

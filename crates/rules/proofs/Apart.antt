@@ -53,7 +53,7 @@ module _ (s : State) (call : EvaluatedCall) (wave : driven (accept s call .wave)
       let after = ltb-true (call .time + 80) (call .time) late in
       absurd (omega arith)
 
-  no-cause3 : unventilatedD (afterWave s call) ≡ true → ⊥
+  no-cause3 : unventilatedD (afterWave s call .settled) (afterWave s call .settings .ventilation) ≡ true → ⊥
   unfolding unventilatedD
   no-cause3 e = clash e (driven-offers s call wave .1 .ventilated)
 
@@ -66,12 +66,12 @@ module _ (s : State) (call : EvaluatedCall) (wave : driven (accept s call .wave)
   pub opens-apart : opensAt s call ≡ true → ⊥
   unfolding opens cause cause1 cause3 cause5
   opens-apart e =
-      go (bothUnsound (pairAt s call)) (cause2 (call .time) (afterWave s call)) (unventilatedD (afterWave s call))
+      go (bothUnsound (pairAt s call)) (cause2 (call .time) (afterWave s call)) (unventilatedD (afterWave s call .settled) (afterWave s call .settings .ventilation))
       (cause4 (call .time) (afterWave s call)) (anyFault (accept s call .faults)) refl refl refl refl refl
       (and-parts (s .closed) (causeAt s call) e .1)
     where
       go : (a b c d f : Bool) → bothUnsound (pairAt s call) ≡ a → cause2 (call .time) (afterWave s call) ≡ b
-          → unventilatedD (afterWave s call) ≡ c → cause4 (call .time) (afterWave s call) ≡ d → anyFault (accept s call .faults) ≡ f
+          → unventilatedD (afterWave s call .settled) (afterWave s call .settings .ventilation) ≡ c → cause4 (call .time) (afterWave s call) ≡ d → anyFault (accept s call .faults) ≡ f
           → a || (b || (c || (d || f))) ≡ true → ⊥
       go true b c d f p q r u v w = no-cause1 p
       go false true c d f p q r u v w = no-cause2 q

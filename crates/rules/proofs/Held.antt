@@ -62,17 +62,17 @@ module _ (s : State) (call : EvaluatedCall) where
   record NoCause : Type 0 where
     one : bothUnsound (pairAt s call) ≡ false
     two : cause2 (call .time) (afterWave s call) ≡ false
-    three : unventilatedD (afterWave s call) ≡ false
+    three : unventilatedD (afterWave s call .settled) (afterWave s call .settings .ventilation) ≡ false
     five : anyFault (accept s call .faults) ≡ false
 
   no-cause : causeAt s call ≡ false → NoCause
   unfolding cause cause1 cause3 cause5
   no-cause e =
-      go (bothUnsound (pairAt s call)) (cause2 (call .time) (afterWave s call)) (unventilatedD (afterWave s call))
+      go (bothUnsound (pairAt s call)) (cause2 (call .time) (afterWave s call)) (unventilatedD (afterWave s call .settled) (afterWave s call .settings .ventilation))
       (cause4 (call .time) (afterWave s call)) (anyFault (accept s call .faults)) refl refl refl refl e
     where
       go : (a b c d f : Bool) → bothUnsound (pairAt s call) ≡ a → cause2 (call .time) (afterWave s call) ≡ b
-          → unventilatedD (afterWave s call) ≡ c → anyFault (accept s call .faults) ≡ f → a || (b || (c || (d || f))) ≡ false → NoCause
+          → unventilatedD (afterWave s call .settled) (afterWave s call .settings .ventilation) ≡ c → anyFault (accept s call .faults) ≡ f → a || (b || (c || (d || f))) ≡ false → NoCause
       go true b c d f p q r u v = clash refl v
       go false true c d f p q r u v = clash refl v
       go false false true d f p q r u v = clash refl v

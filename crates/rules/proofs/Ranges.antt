@@ -98,7 +98,7 @@ module _ (s : State) (call : EvaluatedCall) where
   overrun-stored (limit given) p = p
   overrun-stored (measure line) p =
       either-stored (call .time) (s .closed && driven (s .wave)) _ (s .overrun)
-      (either-stored (call .time) (isOver line (announced s)) _ empty (started-stored (call .time) (s .overrun) p) (none-stored (call .time))) p
+      (either-stored (call .time) (isOver line (announced (s .wave))) _ empty (started-stored (call .time) (s .overrun) p) (none-stored (call .time))) p
   overrun-stored (fault kind) p = p
   overrun-stored clear p = p
   overrun-stored tick p = p

@@ -19,7 +19,7 @@ use Rattle.rules.proofs.Booleans.{clash}
 pub record Offers (s : State) : Type 0 where
   pub enough : 6000 ≤ available s
   pub state : isUAE (s .settled) ≡ false
-  pub ventilated : unventilatedD s ≡ false
+  pub ventilated : unventilatedD (s .settled) (s .settings .ventilation) ≡ false
 
 -- the greatest allowed duty is one of a driven wave
 pub greatest-driven : (available duty : ℕ) → IsGreatest available duty → driven duty ≡ true
@@ -28,14 +28,14 @@ greatest-driven available duty is = inside 100 960 duty (is .least) (is .most)
 
 module _ (s : State) where
   -- a duty is sent, if there is no fault, exactly if these hold
-  pub offers-exactly : (heldHigh s ≡ false) ↔ Offers s
+  pub offers-exactly : (heldHigh (available s) (s .settled) (s .settings .ventilation) ≡ false) ↔ Offers s
   unfolding heldHigh
   offers-exactly = (
-    λ e. go (ltb (available s) 6000) (isUAE (s .settled)) (unventilatedD s) refl refl refl e,
+    λ e. go (ltb (available s) 6000) (isUAE (s .settled)) (unventilatedD (s .settled) (s .settings .ventilation)) refl refl refl e,
     λ offer. rw (le-ltb (available s) 6000 (offer .enough), offer .state, offer .ventilated),
   )
     where
-      go : (low state plain : Bool) → ltb (available s) 6000 ≡ low → isUAE (s .settled) ≡ state → unventilatedD s ≡ plain
+      go : (low state plain : Bool) → ltb (available s) 6000 ≡ low → isUAE (s .settled) ≡ state → unventilatedD (s .settled) (s .settings .ventilation) ≡ plain
           → low || (state || plain) ≡ false → Offers s
       go true state plain p q r f = clash refl f
       go false true plain p q r f = clash refl f
@@ -57,9 +57,9 @@ module _ (s : State) where
 
   pub wave-is : WaveIs (waveFor s)
   unfolding waveFor
-  wave-is = go (anyFault (s .faults)) (heldHigh s) refl refl
+  wave-is = go (anyFault (s .faults)) (heldHigh (available s) (s .settled) (s .settings .ventilation)) refl refl
     where
-      go : (f h : Bool) → anyFault (s .faults) ≡ f → heldHigh s ≡ h → WaveIs (waveFor s)
+      go : (f h : Bool) → anyFault (s .faults) ≡ f → heldHigh (available s) (s .settled) (s .settings .ventilation) ≡ h → WaveIs (waveFor s)
       go true h p q = low (rw p) p
       go false true p q = high (rw (p, q)) p
       go false false p q =

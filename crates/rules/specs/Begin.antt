@@ -3,7 +3,7 @@ use mathlib.Core.Bool.{Bool, false, _&&_, _||_, cond}
 use Prim.Native.Nat.{ℕ}
 use lib.Dec.{eqb, ltb}
 use Rattle.units.specs.Range.{fromTo}
-use Rattle.rules.specs.State.{State, unsettled, noFaults, empty, forgotten}
+use Rattle.rules.specs.State.{State, Settings, unsettled, noFaults, empty, forgotten}
 
 -- begin's values: time, rated current, pause, ventilation
 pub record Begin : Type 0 where
@@ -15,6 +15,10 @@ pub record Begin : Type 0 where
 -- times run from 0 to this one
 abbrev pub largestTime : ℕ
 largestTime = 1000000000000
+
+-- a time beyond the scale
+abbrev pub tooLate : ℕ → Bool
+tooLate time = ltb largestTime time
 
 -- what the pause 0 means
 abbrev pub defaultPause : ℕ
@@ -32,17 +36,21 @@ pauseAllowed pause = fromTo 1000 60000 pause
 unfoldable pub pauseFor : ℕ → ℕ
 pauseFor pause = cond (eqb pause 0) defaultPause pause
 
+-- the settings in force: begin's, the pause as it is stored
+abbrev pub inForce : Settings → Settings
+inForce given = record { rated = given .rated; pause = pauseFor (given .pause); ventilation = given .ventilation }
+
 -- refusal 3, then 1; 0 if begin is accepted
 unfoldable pub beginRefusal : Begin → ℕ
 beginRefusal begin =
-    cond (ltb largestTime (begin .time)) 3
+    cond (tooLate (begin .time)) 3
     (cond (ratedAllowed (begin .rated) && (eqb (begin .pause) 0 || pauseAllowed (begin .pause))) 0 1)
 
 -- the fresh controller: its wave is steady +12 V
 unfoldable pub fresh : Begin → State
 fresh begin =
     record {
-      settings = record { rated = begin .rated; pause = pauseFor (begin .pause); ventilation = begin .ventilation };
+      settings = inForce (record { rated = begin .rated; pause = begin .pause; ventilation = begin .ventilation });
       limit = 0;
       wave = 1000;
       closed = false;

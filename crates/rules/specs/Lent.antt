@@ -18,6 +18,10 @@ pub record Lent : Type 0 where
 abbrev pub mostClosings : ℕ
 mostClosings = 1000000001
 
+-- the range of the closings
+abbrev pub countAllowed : ℕ → Bool
+countAllowed closings = leb closings mostClosings
+
 -- the wave's range
 unfoldable pub waveAllowed : ℕ → Bool
 waveAllowed wave = eqb wave steadyLow || (driven wave || eqb wave steadyHigh)
@@ -42,9 +46,9 @@ inRange s =
 
 -- a controller that the host has altered
 unfoldable pub altered : Lent → Bool
-altered lent = not (inRange (lent .state) && leb (lent .closings) mostClosings)
+altered lent = not (inRange (lent .state) && countAllowed (lent .closings))
 
 -- the refusal of a call that is lent a controller: 3, then 2, then 1, then 4 to 8
 unfoldable pub lentRefusal : Lent → EvaluatedCall → ℕ
 lentRefusal lent call =
-    orElse (timeRefusal (lent .state) (call .time)) (orElse (cond (altered lent) 1 0) (argumentRefusal (call .event)))
+    orElse (timeRefusal (lent .state .last) (call .time)) (orElse (cond (altered lent) 1 0) (argumentRefusal (call .event)))

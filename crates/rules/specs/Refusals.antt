@@ -4,7 +4,7 @@ use Prim.Native.Nat.{ℕ}
 use lib.Dec.{eqb, leb, ltb}
 use Rattle.units.specs.Range.{fromTo}
 use Rattle.window.specs.Evaluation.{Evaluation, levels, refused}
-use Rattle.rules.specs.Begin.{largestTime}
+use Rattle.rules.specs.Begin.{tooLate}
 use Rattle.rules.specs.Calls.{Event, sample, limit, measure, fault, clear, tick, EvaluatedCall}
 use Rattle.rules.specs.State.{State}
 
@@ -13,8 +13,8 @@ abbrev pub orElse : ℕ → ℕ → ℕ
 orElse first second = cond (eqb first 0) second first
 
 -- 3: beyond the scale of times; 2: earlier than the last accepted call, or than begin if there was none
-unfoldable pub timeRefusal : State → ℕ → ℕ
-timeRefusal s time = cond (ltb largestTime time) 3 (cond (ltb time (s .last)) 2 0)
+unfoldable pub timeRefusal : ℕ → ℕ → ℕ
+timeRefusal last time = cond (tooLate time) 3 (cond (ltb time last) 2 0)
 
 -- the window's own refusal: 4, 5 or 6
 abbrev pub windowRefusal : Evaluation → ℕ
@@ -44,4 +44,4 @@ argumentRefusal tick = 0
 
 -- the refusal of a call in a list
 unfoldable pub refusal : State → EvaluatedCall → ℕ
-refusal s call = orElse (timeRefusal s (call .time)) (argumentRefusal (call .event))
+refusal s call = orElse (timeRefusal (s .last) (call .time)) (argumentRefusal (call .event))

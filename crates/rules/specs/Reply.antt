@@ -26,13 +26,16 @@ abbrev pub letterU : ℕ
 letterU = 85
 
 -- the letter: F under a fault, and U where nothing is settled
-unfoldable pub letter : State → ℕ
-letter s = cond (anyFault (s .faults)) letterF (cond (isLetter (s .settled)) (s .settled) letterU)
+unfoldable pub letter : Bool → ℕ → ℕ
+letter faulted settled = cond faulted letterF (cond (isLetter settled) settled letterU)
+
+-- the letter of a state
+abbrev pub letterOf : State → ℕ
+letterOf s = letter (anyFault (s .faults)) (s .settled)
 
 -- digit: 0 for U, E and F, else 2 with a driven wave and 1 without
-unfoldable pub digit : State → ℕ
-digit s =
-    cond (eqb (letter s) letterU || (eqb (letter s) bandE || eqb (letter s) letterF)) 0 (cond (driven (s .wave)) 2 1)
+unfoldable pub digit : ℕ → ℕ → ℕ
+digit shown wave = cond (eqb shown letterU || (eqb shown bandE || eqb shown letterF)) 0 (cond (driven wave) 2 1)
 
 -- some latched fault, here the lowest; 0 if none. The paper leaves open which.
 unfoldable pub faultShown : Faults → ℕ
@@ -48,8 +51,8 @@ abbrev pub shown : ℕ → Lent → Reply
 shown number lent =
     record {
       refusal = number;
-      letter = letter (lent .state);
-      digit = digit (lent .state);
+      letter = letterOf (lent .state);
+      digit = digit (letterOf (lent .state)) (lent .state .wave);
       wave = lent .state .wave;
       closed = lent .state .closed;
       fault = faultShown (lent .state .faults);

@@ -1,6 +1,7 @@
 -- What the replay keeps (document 01, demand 3), and nothing else. Times are in milliseconds, currents in milliamps.
 use mathlib.Core.Bool.{Bool, true, false, _||_, cond}
-use Prim.Native.Nat.{ℕ}
+use Prim.Native.Nat.{ℕ, _+_}
+use lib.Dec.{leb, ltb}
 use Rattle.pilot.specs.declared.verdicts.Verdict.{Verdict}
 
 -- a time or a start that is set, or empty; the number of an empty one says nothing
@@ -19,6 +20,14 @@ setTo time = record { set = true; time = time }
 -- starts now, unless it runs already
 abbrev pub startedBy : ℕ → Moment → Moment
 startedBy time start = cond (start .set) start (setTo time)
+
+-- never so far, or a span ago or longer
+abbrev pub neverOrAgo : ℕ → ℕ → Moment → Bool
+neverOrAgo span time last = cond (last .set) (leb (last .time + span) time) true
+
+-- never so far, or longer than a span ago
+abbrev pub neverOrLongerAgo : ℕ → ℕ → Moment → Bool
+neverOrLongerAgo span time last = cond (last .set) (ltb (last .time + span) time) true
 
 -- the previous sample with its verdict; none is kept at the start and where it is forgotten
 pub record Previous : Type 0 where

@@ -54,19 +54,21 @@ currentOf (current milliamps) = milliamps
 currentOf (refused number) = 0
 
 -- the current that the van may draw by the wave: what an over-run is judged against
-unfoldable pub announced : State → ℕ
-announced s = currentOf (readingOf (s .wave))
+unfoldable pub announced : ℕ → ℕ
+announced wave = currentOf (readingOf wave)
 
 -- more than a tenth above what is announced
 unfoldable pub isOver : ℕ → ℕ → Bool
 isOver line allowed = ltb (11 * allowed) (10 * line)
 
+-- a measure that is judged: an over-run starts unless one runs, or it ends
+abbrev pub overrunJudged : ℕ → ℕ → ℕ → Moment → Moment
+overrunJudged time line allowed overrun = cond (isOver line allowed) (startedBy time overrun) empty
+
 -- a measure is judged where the contactor is closed and the wave driven
 unfoldable pub overrunAt : ℕ → ℕ → State → Moment
 overrunAt time line s =
-    cond (s .closed && driven (s .wave))
-    (cond (isOver line (announced s)) (startedBy time (s .overrun)) empty)
-    (s .overrun)
+    cond (s .closed && driven (s .wave)) (overrunJudged time line (announced (s .wave)) (s .overrun)) (s .overrun)
 
 -- the over-run: only a measure starts or ends it here
 unfoldable pub overrunBy : ℕ → Event Evaluation → State → Moment

@@ -17,16 +17,20 @@ overCurrent time s = ranFor 5000 time (s .overrun)
 unfoldable pub unsettles : Bool → ℕ → Pair → State → Bool
 unsettles faultCall time pair s = faultCall || (bothDiodeBad pair || overCurrent time s)
 
--- the faults with 1 (no diode) and 2 as they latch
-unfoldable pub latched : ℕ → Pair → State → Faults
-latched time pair s =
+-- the faults with 1 (no diode) and 2 (over-current) beside them, each where it latches
+abbrev pub withLatches : Bool → Bool → Faults → Faults
+withLatches diode over faults =
     record {
-      diode = s .faults .diode || bothDiodeBad pair;
-      overcurrent = s .faults .overcurrent || overCurrent time s;
-      residual = s .faults .residual;
-      welded = s .faults .welded;
-      temperature = s .faults .temperature;
+      diode = faults .diode || diode;
+      overcurrent = faults .overcurrent || over;
+      residual = faults .residual;
+      welded = faults .welded;
+      temperature = faults .temperature;
     }
+
+-- the faults after step 2
+unfoldable pub latched : ℕ → Pair → State → Faults
+latched time pair s = withLatches (bothDiodeBad pair) (overCurrent time s) (s .faults)
 
 -- with the settled state goes the previous sample
 abbrev pub stepLatch : Bool → ℕ → Pair → State → State

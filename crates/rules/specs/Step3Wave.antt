@@ -25,25 +25,30 @@ unfoldable pub isUAE : ℕ → Bool
 isUAE settled = not (isLetter settled) || (eqb settled bandA || eqb settled bandE)
 
 -- settled D without ventilation
-unfoldable pub unventilatedD : State → Bool
-unventilatedD s = eqb (s .settled) bandD && not (s .settings .ventilation)
+unfoldable pub unventilatedD : ℕ → Bool → Bool
+unventilatedD settled ventilation = eqb settled bandD && not ventilation
 
 -- the lesser of rated and limit
 unfoldable pub available : State → ℕ
 available s = min (s .settings .rated) (s .limit)
 
 -- no duty is sent, though there is no fault
-unfoldable pub heldHigh : State → Bool
-heldHigh s = ltb (available s) 6000 || (isUAE (s .settled) || unventilatedD s)
+unfoldable pub heldHigh : ℕ → ℕ → Bool → Bool
+heldHigh current settled ventilation = ltb current 6000 || (isUAE settled || unventilatedD settled ventilation)
 
 -- the duty that is sent; where there is none the wave stays high, which `heldHigh` has ruled out
 unfoldable pub sent : Sends → ℕ
 sent (duty d) = d
 sent (refusal number) = steadyHigh
 
+-- the wave, by whether a fault is latched, the available current, the settled state and the ventilation
+abbrev pub waveOf : Bool → ℕ → ℕ → Bool → ℕ
+waveOf faulted current settled ventilation =
+    cond faulted steadyLow (cond (heldHigh current settled ventilation) steadyHigh (sent (dutyFor current)))
+
 -- the wave
 unfoldable pub waveFor : State → ℕ
-waveFor s = cond (anyFault (s .faults)) steadyLow (cond (heldHigh s) steadyHigh (sent (dutyFor (available s))))
+waveFor s = waveOf (anyFault (s .faults)) (available s) (s .settled) (s .settings .ventilation)
 
 -- an over-run ends where the wave is not driven
 unfoldable pub overrunUnder : ℕ → Moment → Moment

@@ -1,11 +1,10 @@
 -- Step 4 of an accepted call: opening, and its five causes.
-use mathlib.Core.Bool.{Bool, true, _&&_, _||_, not, cond}
-use Prim.Native.Nat.{ℕ, _+_}
-use lib.Dec.{ltb}
+use mathlib.Core.Bool.{Bool, _&&_, _||_, not, cond}
+use Prim.Native.Nat.{ℕ}
 use Rattle.rules.specs.Pairs.{Pair, bothUnsound}
 use Rattle.rules.specs.Step2Latches.{ranFor}
 use Rattle.rules.specs.Step3Wave.{unventilatedD}
-use Rattle.rules.specs.State.{State, anyFault, empty, setTo, forgotten}
+use Rattle.rules.specs.State.{State, anyFault, empty, setTo, neverOrLongerAgo, forgotten}
 
 -- (i) a pair of unsound samples
 unfoldable pub cause1 : Pair → Bool
@@ -13,11 +12,11 @@ cause1 pair = bothUnsound pair
 
 -- (ii) the last sound sample is more than 80 old, or there was none
 unfoldable pub cause2 : ℕ → State → Bool
-cause2 time s = cond (s .sound .set) (ltb (s .sound .time + 80) time) true
+cause2 time s = neverOrLongerAgo 80 time (s .sound)
 
 -- (iii) a state that needs ventilation, where there is none
 unfoldable pub cause3 : State → Bool
-cause3 s = unventilatedD s
+cause3 s = unventilatedD (s .settled) (s .settings .ventilation)
 
 -- (iv) a stop that is 3,000 old
 unfoldable pub cause4 : ℕ → State → Bool

@@ -1,14 +1,13 @@
 -- Step 5 of an accepted call: closing.
-use mathlib.Core.Bool.{Bool, true, _&&_, _||_, not, cond}
-use Prim.Native.Nat.{ℕ, suc, _+_}
-use lib.Dec.{leb}
+use mathlib.Core.Bool.{Bool, _&&_, _||_, not, cond}
+use Prim.Native.Nat.{ℕ, suc}
 use Rattle.units.specs.Wave.{driven}
 use Rattle.rules.specs.Pairs.{Pair, bothProven}
-use Rattle.rules.specs.State.{State}
+use Rattle.rules.specs.State.{State, neverOrAgo}
 
 -- no opening yet, or the pause has passed since the last one
 unfoldable pub rested : ℕ → State → Bool
-rested time s = cond (s .opening .set) (leb (s .opening .time + s .settings .pause) time) true
+rested time s = neverOrAgo (s .settings .pause) time (s .opening)
 
 -- the closing conditions, all of them: the contactor is open, and this call did not open it; the wave is driven; the call is a
 -- sample and makes a proven pair in one band (`bothProven` asks for both); and the contactor has rested

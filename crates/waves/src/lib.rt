@@ -7,12 +7,11 @@ use units::Milliamps;
 use units::Millis;
 use units::conditions;
 ghost use mathlib.Core.Path.{_≡_};
-ghost use mathlib.Core.Bool.{_&&_, _||_, not, cond};
-ghost use lib.Dec.{eqb, ltb};
-ghost use Rattle.pilot.specs.Bands.{bandD};
+ghost use mathlib.Core.Bool.{cond};
+ghost use lib.Dec.{eqb};
 ghost use Rattle.duty.specs.Answers.{asSends};
 ghost use Rattle.duty.specs.DutyFor.{dutyFor};
-ghost use Rattle.rules.specs.Step3Wave.{steadyLow, steadyHigh, isUAE, sent, overrunUnder, stopUnder};
+ghost use Rattle.rules.specs.Step3Wave.{steadyLow, steadyHigh, isUAE, unventilatedD, heldHigh, sent, waveOf, overrunUnder, stopUnder};
 ghost use Rattle.parts.specs.Views.{asMoment};
 
 // Settled U, A or E.
@@ -27,7 +26,7 @@ fn is_u_a_or_e(settled: u8) -> bool
 
 // Settled D without ventilation.
 pub fn unventilated_d(settled: u8, ventilation: bool) -> bool
-    ensures { λ r. ⌜ r ≡ eqb settled bandD && not ventilation ⌝ }
+    ensures { λ r. ⌜ r ≡ unventilatedD settled ventilation ⌝ }
 {
     let d = settled == b'D';
     conditions::both(d, !ventilation)
@@ -35,7 +34,7 @@ pub fn unventilated_d(settled: u8, ventilation: bool) -> bool
 
 // No duty is sent, though there is no fault.
 fn held_high(available: Milliamps, settled: u8, ventilation: bool) -> bool
-    ensures { λ r. ⌜ r ≡ ltb (available .0) 6000 || (isUAE settled || (eqb settled bandD && not ventilation)) ⌝ }
+    ensures { λ r. ⌜ r ≡ heldHigh (available .0) settled ventilation ⌝ }
 {
     let too_low = available.below(Milliamps(6000));
     let idle = is_u_a_or_e(settled);
@@ -74,10 +73,7 @@ fn wave_by(faulted: bool, high: bool, duty: u32) -> u32
 
 // The wave of a post: steady -12 V with a fault, steady +12 V where no duty is sent, else the duty.
 pub fn wave_for(faulted: bool, available: Milliamps, settled: u8, ventilation: bool) -> u32
-    ensures { λ r. ⌜
-        r ≡ cond faulted steadyLow
-        (cond (ltb (available .0) 6000 || (isUAE settled || (eqb settled bandD && not ventilation))) steadyHigh (sent (dutyFor (available .0))))
-        ⌝ }
+    ensures { λ r. ⌜ r ≡ waveOf faulted (available .0) settled ventilation ⌝ }
 {
     let high = held_high(available, settled, ventilation);
     let duty = sent_for(available);

@@ -100,9 +100,9 @@ fn time(kind: Kind, lent: &Pair, on_a_copy: bool, effort: Effort) -> Vec<Times> 
             model = lent.model;
         }
         let value = other_turn.next().copied().unwrap_or(0);
-        let (next, told) = model.call(DRIVEN_TO, &(kind.event)(black_box(value)));
+        let (next, outcome) = model.call(DRIVEN_TO, &(kind.event)(black_box(value)));
         model = next;
-        black_box(told.reply);
+        black_box(outcome.reply);
     };
     let contestants = vec![Contestant::new(archive_call), Contestant::new(model_call)];
     contest(contestants, effort)

@@ -22,8 +22,8 @@ pub fn all_agree_on(window: &[i32]) {
     match expected {
         Ok(found) => archive_agrees(window, found),
         Err(refusal) => {
-            let told = charging().archive.sample(DRIVEN_TO, window);
-            assert_eq!(told.refusal, refusal, "the archive");
+            let reply = charging().archive.sample(DRIVEN_TO, window);
+            assert_eq!(reply.refusal, refusal, "the archive");
         }
     }
 }
@@ -45,8 +45,8 @@ fn archive_agrees(window: &[i32], (high, low): Levels) {
 
 fn verdict_agrees(window: &[i32], (high, low): Levels) {
     let mut pair = charging();
-    let told = pair.archive.sample(DRIVEN_TO, window);
-    assert_eq!(told.refusal, 0, "the archive");
+    let reply = pair.archive.sample(DRIVEN_TO, window);
+    assert_eq!(reply.refusal, 0, "the archive");
     let kept = pair.archive.controller.previous;
     assert!(kept.kept, "the archive kept no sample");
     let expected = expected(&pair.model, high, low);

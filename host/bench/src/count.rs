@@ -68,9 +68,9 @@ fn others(
     for value in values.iter().cycle().take(calls) {
         let event = event(black_box(*value));
         if rust {
-            let (next, told) = pair.model.call(DRIVEN_TO, &event);
+            let (next, outcome) = pair.model.call(DRIVEN_TO, &event);
             pair.model = next;
-            black_box(told.reply);
+            black_box(outcome.reply);
         } else {
             black_box(pair.archive.call(DRIVEN_TO, &event));
         }

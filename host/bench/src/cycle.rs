@@ -104,9 +104,9 @@ fn model_cycle(calls: &[(u64, Event)]) {
     let begun = chuldariin_model::begin(black_box(&BEGIN));
     let (mut model, _) = begun.expect("begin is in range");
     for (time, event) in calls {
-        let (next, told) = model.call(*time, event);
+        let (next, outcome) = model.call(*time, event);
         model = next;
-        black_box(told.reply);
+        black_box(outcome.reply);
     }
 }
 

@@ -16,30 +16,30 @@ pub struct Pair {
 
 impl Pair {
     pub fn begin(b: &Begin) -> Pair {
-        let (archive, told) = Archive::begin(b);
+        let (archive, reply) = Archive::begin(b);
         let (model, expected) = chuldariin_model::begin(b).expect("begin is in range");
-        agree(&told, &expected);
+        agree(&reply, &expected);
         Pair { archive, model }
     }
 
     /// One call on both. Their replies must agree.
     pub fn call(&mut self, time: u64, event: &Event) {
-        let told = self.archive.call(time, event);
+        let reply = self.archive.call(time, event);
         let (next, expected) = self.model.call(time, event);
         self.model = next;
-        agree(&told, &expected.reply);
+        agree(&reply, &expected.reply);
     }
 }
 
-fn agree(told: &chuldariin::raw::Reply, expected: &chuldariin_model::Reply) {
-    let same = told.refusal == expected.refusal
-        && told.letter == expected.letter
-        && told.digit == expected.digit
-        && told.wave == expected.wave
-        && told.closed == expected.closed
-        && told.closings == expected.closings
-        && expected.may_tell(told.fault.into());
-    assert!(same, "archive and model differ: {told:?} and {expected:?}");
+fn agree(reply: &chuldariin::raw::Reply, expected: &chuldariin_model::Reply) {
+    let same = reply.refusal == expected.refusal
+        && reply.letter == expected.letter
+        && reply.digit == expected.digit
+        && reply.wave == expected.wave
+        && reply.closed == expected.closed
+        && reply.closings == expected.closings
+        && expected.may_tell(reply.fault.into());
+    assert!(same, "archive and model differ: {reply:?} and {expected:?}");
 }
 
 fn begun() -> Pair {

@@ -199,7 +199,7 @@ pub fn reading(duty: u32) -> Result<Reading, Refusal> {
 /// ```
 pub fn duty_for(available: Milliamps) -> Result<u32, Refusal> {
     // SAFETY: numbers alone cross.
-    let told = unsafe { raw::chuldariin_duty(available.0) };
-    refusal::told(told.refusal)?;
-    Ok(told.duty)
+    let reply = unsafe { raw::chuldariin_duty(available.0) };
+    refusal::result_of(reply.refusal)?;
+    Ok(reply.duty)
 }

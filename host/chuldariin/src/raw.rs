@@ -153,10 +153,10 @@ pub struct Reply {
     pub closings: u32,
 }
 
-/// What a van reads from a duty: `struct chuldariin_told_reading`.
+/// What a van reads from a duty: `struct chuldariin_reading_reply`.
 #[repr(C)]
 #[derive(Clone, Copy, Debug, PartialEq, Eq)]
-pub struct Reading {
+pub struct ReadingReply {
     /// 0, or 9.
     pub refusal: u8,
     /// 0 no charging, 1 digital only, 2 a current.
@@ -165,10 +165,10 @@ pub struct Reading {
     pub current: u32,
 }
 
-/// The greatest duty for an available current: `struct chuldariin_told_duty`.
+/// The greatest duty for an available current: `struct chuldariin_duty_reply`.
 #[repr(C)]
 #[derive(Clone, Copy, Debug, PartialEq, Eq)]
-pub struct Duty {
+pub struct DutyReply {
     /// 0, or 10.
     pub refusal: u8,
     /// In tenths of a percent; 0 if refused.
@@ -194,8 +194,8 @@ extern "C" {
     pub fn chuldariin_fault(c: *mut Controller, time: u64, kind: u32) -> Reply;
     pub fn chuldariin_clear(c: *mut Controller, time: u64) -> Reply;
     pub fn chuldariin_tick(c: *mut Controller, time: u64) -> Reply;
-    pub fn chuldariin_reading(duty: u32) -> Reading;
-    pub fn chuldariin_duty(current: u32) -> Duty;
+    pub fn chuldariin_reading(duty: u32) -> ReadingReply;
+    pub fn chuldariin_duty(current: u32) -> DutyReply;
 }
 
 // The layout that the archive was compiled for.
@@ -205,7 +205,7 @@ const _: () = {
     assert!(size_of::<Reply>() == 16 && align_of::<Reply>() == 4);
     assert!(size_of::<Settings>() == 24 && size_of::<Moment>() == 16);
     assert!(size_of::<Faults>() == 5 && size_of::<Verdict>() == 4 && size_of::<Previous>() == 5);
-    assert!(size_of::<Reading>() == 8 && size_of::<Duty>() == 8);
+    assert!(size_of::<ReadingReply>() == 8 && size_of::<DutyReply>() == 8);
     assert!(offset_of!(Controller, limit) == 24 && offset_of!(Controller, wave) == 28);
     assert!(offset_of!(Controller, closed) == 32 && offset_of!(Controller, settled) == 33);
     assert!(offset_of!(Controller, faults) == 34 && offset_of!(Controller, last) == 40);

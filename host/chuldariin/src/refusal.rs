@@ -94,7 +94,7 @@ impl fmt::Display for Refusal {
 impl Error for Refusal {}
 
 /// Whether the archive accepted.
-pub(crate) fn told(number: u8) -> Result<(), Refusal> {
+pub(crate) fn result_of(number: u8) -> Result<(), Refusal> {
     if number == 0 {
         return Ok(());
     }
@@ -106,5 +106,5 @@ pub(crate) fn told(number: u8) -> Result<(), Refusal> {
 
 /// A number that the archive's contracts leave no room for.
 pub(crate) fn unknown(what: &str, number: u8) -> ! {
-    panic!("the archive told {what} {number}, which there is none of: is libpost.a of another version?")
+    panic!("the archive told {what} {number}, which there is none of: is libchuldariin.a of another version?")
 }

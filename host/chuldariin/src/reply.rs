@@ -1,5 +1,5 @@
 //! What a call tells.
-use crate::refusal::{told, unknown, Refusal};
+use crate::refusal::{result_of, unknown, Refusal};
 use crate::{raw, Milliamps};
 use std::fmt;
 
@@ -80,7 +80,7 @@ pub enum Reading {
 }
 
 pub(crate) fn accepted(reply: raw::Reply) -> Result<Reply, Refusal> {
-    told(reply.refusal)?;
+    result_of(reply.refusal)?;
     Ok(Reply {
         state: State {
             letter: char::from(reply.letter),
@@ -93,12 +93,12 @@ pub(crate) fn accepted(reply: raw::Reply) -> Result<Reply, Refusal> {
     })
 }
 
-pub(crate) fn read(reading: raw::Reading) -> Result<Reading, Refusal> {
-    told(reading.refusal)?;
-    Ok(match reading.kind {
+pub(crate) fn read(reply: raw::ReadingReply) -> Result<Reading, Refusal> {
+    result_of(reply.refusal)?;
+    Ok(match reply.kind {
         0 => Reading::NoCharging,
         1 => Reading::DigitalOnly,
-        2 => Reading::Current(Milliamps(reading.current)),
+        2 => Reading::Current(Milliamps(reply.current)),
         kind => unknown("kind", kind),
     })
 }

@@ -31,10 +31,10 @@ pub fn notes(turn: &Turn) -> Vec<Note> {
         return begun(turn);
     }
     let mut notes = Vec::new();
-    if turn.told.opened {
+    if turn.outcome.opened {
         notes.push(note(Kind::Opened, opened(turn)));
     }
-    if turn.told.closing {
+    if turn.outcome.closing {
         notes.push(note(Kind::Closed, closed(turn)));
     }
     latched(turn, &mut notes);
@@ -64,7 +64,7 @@ fn begun(turn: &Turn) -> Vec<Note> {
 /// The faults that this call latched, and why.
 fn latched(turn: &Turn, notes: &mut Vec<Note>) {
     for (place, name) in FAULTS.iter().enumerate() {
-        if !turn.told.latched[place] {
+        if !turn.outcome.latched[place] {
             continue;
         }
         let why = match (place, turn.sample, turn.previous) {
@@ -75,7 +75,7 @@ fn latched(turn: &Turn, notes: &mut Vec<Note>) {
         };
         // An opening tells its faults, and of a bad diode its levels.
         let known = |note: &Note| note.words.contains(&why) || why == "told";
-        if !(turn.told.opened && notes.iter().any(known)) {
+        if !(turn.outcome.opened && notes.iter().any(known)) {
             let words = format!("fault {} ({name}): {why}", place + 1);
             notes.push(note(Kind::Event, words));
         }
@@ -143,7 +143,7 @@ fn ago(start: Option<u64>, turn: &Turn) -> String {
 
 /// The causes that held, each with its number.
 fn opened(turn: &Turn) -> String {
-    let held = (0..5).filter(|&cause| turn.told.causes[cause]);
+    let held = (0..5).filter(|&cause| turn.outcome.causes[cause]);
     let causes: Vec<String> = held
         .map(|cause| format!("{} ({})", because(turn, cause), NUMERALS[cause]))
         .collect();
@@ -198,7 +198,7 @@ fn overrun(turn: &Turn, notes: &mut Vec<Note>) {
             allowed(&turn.before),
             start + OVERRUN_AGE
         ),
-        (Some(start), None, _) if !turn.told.latched[1] => {
+        (Some(start), None, _) if !turn.outcome.latched[1] => {
             format!("over-run ends, {} ms old", grouped(turn.after.last - start))
         }
         _ => return,
@@ -226,7 +226,7 @@ fn stop(turn: &Turn, notes: &mut Vec<Note>) {
             why_steady(&turn.after),
             start + STOP_AGE
         ),
-        (Some(start), None) if !turn.told.causes[3] => {
+        (Some(start), None) if !turn.outcome.causes[3] => {
             format!("stop ends, {} ms old", grouped(turn.after.last - start))
         }
         _ => return,

@@ -46,7 +46,7 @@ fn found(turn: &Turn) -> Conditions {
             pause_over: true,
             ..Conditions::default()
         },
-        _ => turn.told.conditions,
+        _ => turn.outcome.conditions,
     }
 }
 
@@ -134,7 +134,7 @@ fn band_detail(turn: &Turn) -> String {
 
 /// Did the call forget the previous sample?
 fn forgets(turn: &Turn) -> bool {
-    turn.told.opened || turn.told.latched.contains(&true)
+    turn.outcome.opened || turn.outcome.latched.contains(&true)
 }
 
 fn pause_detail(turn: &Turn) -> String {

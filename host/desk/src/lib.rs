@@ -8,7 +8,7 @@
 //! |---|---|
 //! | `input` | a log from a file or standard input, or what is wrong with it |
 //! | `turn` | one call, replayed and explained |
-//! | `weigh` | window to levels, fast |
+//! | `evaluate` | window to levels, fast |
 //! | `words` | numbers, waves, faults and refusals in words |
 //! | `causes` | what happened in a call: closings, openings with their causes, latches, over-runs, stops |
 //! | `table`, `paint` | one aligned line a call |
@@ -23,6 +23,7 @@
 pub mod causes;
 pub mod conditions;
 pub mod demo;
+pub mod evaluate;
 pub mod input;
 pub mod options;
 pub mod paint;
@@ -32,6 +33,5 @@ pub mod replay;
 pub mod summary;
 pub mod table;
 pub mod turn;
-pub mod weigh;
 pub mod why;
 pub mod words;

@@ -20,18 +20,18 @@ const WRONG: u8 = 2;
 
 fn main() -> ExitCode {
     let words = std::env::args_os().skip(1).map(|word| word.into_string());
-    let told = match words.collect::<Result<Vec<String>, _>>() {
+    let asked = match words.collect::<Result<Vec<String>, _>>() {
         Ok(words) => command(&words),
         Err(word) => Err(format!("{word:?} is not UTF-8; expected names that are")),
     };
-    let told = match told {
+    let ended = match asked {
         Ok(command) => run(command),
         Err(what) => {
             complain(&format!("{what}\n\n{USAGE}"));
             return ExitCode::from(WRONG);
         }
     };
-    match told {
+    match ended {
         Ok(()) => ExitCode::SUCCESS,
         // Whoever read the output has had enough of it.
         Err(error) if is_closed_pipe(&*error) => ExitCode::SUCCESS,

@@ -13,8 +13,8 @@ const APART: Duration = Duration::from_millis(200);
 pub struct Progress {
     calls: u64,
     done: u64,
-    /// When it was last told; nothing is told without.
-    told: Option<Instant>,
+    /// When a line of it was last written; none is written without.
+    last_written: Option<Instant>,
     /// A line of it stands on the terminal.
     shown: bool,
     /// Standard output is a terminal too.
@@ -29,7 +29,7 @@ impl Progress {
         Progress {
             calls,
             done: 0,
-            told: wanted.then(Instant::now),
+            last_written: wanted.then(Instant::now),
             shown: false,
             shared: shared && wanted,
         }
@@ -51,16 +51,18 @@ impl Progress {
     /// One call is done.
     pub fn step(&mut self) {
         self.done += 1;
-        let Some(told) = self.told else { return };
-        if self.done.is_multiple_of(LOOK) && told.elapsed() >= APART {
+        let Some(last) = self.last_written else {
+            return;
+        };
+        if self.done.is_multiple_of(LOOK) && last.elapsed() >= APART {
             let (done, calls) = (grouped(self.done), grouped(self.calls));
             let percent = self.done * 100 / self.calls;
-            // Nothing is lost if it can't be told.
+            // Nothing is lost if it can't be written.
             let _ = write!(
                 io::stderr(),
                 "\rreplayed {done} of {calls} calls ({percent} %)\x1b[K"
             );
-            self.told = Some(Instant::now());
+            self.last_written = Some(Instant::now());
             self.shown = true;
         }
     }

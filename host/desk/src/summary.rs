@@ -58,10 +58,10 @@ impl Summary {
         if turn.begins() {
             self.begin(turn);
         }
-        if turn.told.opened {
+        if turn.outcome.opened {
             self.opening(turn);
         }
-        if turn.told.closing {
+        if turn.outcome.closing {
             self.closing(turn.after.last, turn.after.pause);
         }
     }
@@ -78,7 +78,7 @@ impl Summary {
 
     fn opening(&mut self, turn: &Turn) {
         self.openings += 1;
-        let held = turn.told.causes.map(u64::from);
+        let held = turn.outcome.causes.map(u64::from);
         self.several += u64::from(held.iter().sum::<u64>() > 1);
         for (count, held) in self.causes.iter_mut().zip(held) {
             *count += held;

@@ -3,7 +3,7 @@
 use crate::causes::{Kind, Note};
 use crate::paint::{Colour, Paint};
 use crate::turn::Turn;
-use crate::words::{call, letter, told_fault, wave};
+use crate::words::{call, letter, reply_fault, wave};
 use chuldariin_log::{Entry, Line};
 use chuldariin_model::Verdict;
 use std::io::{self, Write};
@@ -56,7 +56,7 @@ impl Table {
             line = self.line_width,
             time = self.time_width,
         )?;
-        self.told(out, turn)?;
+        self.reply_columns(out, turn)?;
         for (place, note) in notes.iter().enumerate() {
             let apart = if place == 0 { "  " } else { "; " };
             write!(out, "{apart}{}", self.note(note))?;
@@ -65,7 +65,7 @@ impl Table {
     }
 
     /// What the reply tells.
-    fn told(&self, out: &mut impl Write, turn: &Turn) -> io::Result<()> {
+    fn reply_columns(&self, out: &mut impl Write, turn: &Turn) -> io::Result<()> {
         let reply = &turn.reply;
         // A refused begin comes alone, and before the first begin nothing is commanded.
         if reply.letter == 0 || !turn.begun && !turn.accepted() {
@@ -80,7 +80,7 @@ impl Table {
             true => self.paint.colour(Colour::Green, &contactor),
             false => contactor,
         };
-        let fault = format!("{:<19}", told_fault(turn));
+        let fault = format!("{:<19}", reply_fault(turn));
         write!(
             out,
             "{:<5}  {:<16}  {contactor}  {}  {:>8}",

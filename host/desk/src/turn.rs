@@ -1,13 +1,13 @@
 //! One call of a log, replayed through the archive and explained beside it.
 
-use crate::weigh::weigh;
+use crate::evaluate::evaluate;
 use chuldariin::raw;
 use chuldariin_log::answer::answer;
 use chuldariin_log::ask::ask;
 use chuldariin_log::meaning::meaning;
 use chuldariin_log::unlike::{unlike, unlike_kept};
 use chuldariin_log::{Call, Room, Window};
-use chuldariin_model::{driven, verdict, State, Told, Verdict, Weighed};
+use chuldariin_model::{driven, verdict, Evaluated, Outcome, State, Verdict};
 use std::fmt;
 
 /// An accepted sample.
@@ -44,7 +44,7 @@ pub struct Turn<'a> {
     pub before: State,
     pub after: State,
     /// Causes, conditions and latches.
-    pub told: Told,
+    pub outcome: Outcome,
     /// This call's sample.
     pub sample: Option<Sample>,
     /// The previous one, as the call found it; begin looks for none.
@@ -115,10 +115,10 @@ impl Post {
     pub fn turn<'a>(&mut self, line: usize, call: &'a Call) -> Result<Turn<'a>, Differs> {
         let before = self.state;
         let levels = self.levels(call);
-        let (state, told) = answer(&before, call, |_| levels, &mut self.room);
+        let (state, outcome) = answer(&before, call, |_| levels, &mut self.room);
         let reply = ask(&mut self.lent, call, &mut self.room);
         self.state = meaning(&self.lent);
-        let mut what = unlike(&reply, &told.reply);
+        let mut what = unlike(&reply, &outcome.reply);
         what.extend(unlike_kept(&self.state, &state));
         if !what.is_empty() {
             return Err(Differs { line, what });
@@ -130,7 +130,7 @@ impl Post {
             begun: self.begun,
             before,
             after: state,
-            told,
+            outcome,
             sample: sampled(call, &reply, levels, &before),
             previous: match call {
                 Call::Begin(_) => Err(Forgotten::Never),
@@ -143,15 +143,15 @@ impl Post {
     }
 
     /// The levels of a sample; any refusal does for another call.
-    fn levels(&mut self, call: &Call) -> Weighed {
+    fn levels(&mut self, call: &Call) -> Evaluated {
         match call {
             // Each half is its own support.
             &Call::Sample(_, Window::Halves(one, other))
-                if crate::weigh::in_range(one) && crate::weigh::in_range(other) =>
+                if crate::evaluate::in_range(one) && crate::evaluate::in_range(other) =>
             {
                 Ok((one.max(other), one.min(other)))
             }
-            Call::Sample(_, window) => weigh(window.readings(&mut self.room)),
+            Call::Sample(_, window) => evaluate(window.readings(&mut self.room)),
             _ => Err(0),
         }
     }
@@ -164,15 +164,15 @@ impl Post {
         let time = turn.after.last;
         self.previous = match (turn.begins(), turn.sample) {
             (true, _) => Err(Forgotten::Never),
-            (_, _) if turn.told.opened => Err(Forgotten::Opening(time)),
-            (_, _) if turn.told.latched.contains(&true) => Err(Forgotten::Fault(time)),
+            (_, _) if turn.outcome.opened => Err(Forgotten::Opening(time)),
+            (_, _) if turn.outcome.latched.contains(&true) => Err(Forgotten::Fault(time)),
             (_, Some(sample)) => Ok(sample),
             (_, None) => self.previous,
         };
     }
 }
 
-fn sampled(call: &Call, reply: &raw::Reply, levels: Weighed, before: &State) -> Option<Sample> {
+fn sampled(call: &Call, reply: &raw::Reply, levels: Evaluated, before: &State) -> Option<Sample> {
     match (call, levels) {
         (&Call::Sample(time, _), Ok((high, low))) if reply.refusal == 0 => Some(Sample {
             time,

@@ -67,10 +67,10 @@ impl<'a> Found<'a> {
         if turn.begins() {
             (self.closing, self.opening) = (None, None);
         }
-        if turn.told.closing {
+        if turn.outcome.closing {
             self.closing = Some(turn);
         }
-        if turn.told.opened || turn.begun_while_closed() {
+        if turn.outcome.opened || turn.begun_while_closed() {
             self.opening = Some(turn);
         }
         self.last = Some(turn);
@@ -125,7 +125,7 @@ fn heading(
             "after it {count} refused, which judge nothing; the first is line {}, {}: {}",
             first.line,
             call(first),
-            told(first, Kind::Refused)
+            words_of(first, Kind::Refused)
         )?;
     }
     let contactor = if last.reply.closed { "closed" } else { "open" };
@@ -148,8 +148,8 @@ fn earlier(at: At, last: &Turn) -> String {
     }
 }
 
-/// The note of a kind.
-fn told(turn: &Turn, kind: Kind) -> String {
+/// The words of its note of a kind.
+fn words_of(turn: &Turn, kind: Kind) -> String {
     let notes = notes(turn);
     let note = notes.into_iter().find(|note| note.kind == kind);
     note.map_or(String::new(), |note| note.words)
@@ -164,7 +164,7 @@ fn open(
 ) -> io::Result<()> {
     if let Some(opening) = opening {
         let (line, time) = (opening.line, opening.after.last);
-        let words = told(opening, Kind::Opened);
+        let words = words_of(opening, Kind::Opened);
         writeln!(out, "{words}; line {line}, at {time}\n")?;
     }
     for condition in conditions(last) {

@@ -1,7 +1,7 @@
 //! Numbers, waves, faults and refusals in words.
 
+use crate::evaluate::in_range;
 use crate::turn::Turn;
-use crate::weigh::in_range;
 use chuldariin::{reading, Reading};
 use chuldariin_log::{Call, Room, Window};
 use chuldariin_model::{Band, State, ENOUGH, LEAST_CURRENT, LONGEST, NEAR, READING_END, SHORTEST};
@@ -90,7 +90,7 @@ pub fn letter(band: Option<Band>) -> &'static str {
 }
 
 /// The fault that a reply tells, and how many more are latched.
-pub fn told_fault(turn: &Turn) -> String {
+pub fn reply_fault(turn: &Turn) -> String {
     let latched = turn.after.faults.iter().filter(|fault| **fault).count();
     let name = fault(turn.reply.fault);
     match latched {

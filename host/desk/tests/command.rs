@@ -201,7 +201,7 @@ fn why_an_open_contactor_is_open() {
         "{CHARGE}sample 50 6000 -10900\ntick 121\nsample 130 6000 -10900\nsample 140 6000 -12000\n"
     );
     let why = |at: &str| text(&run(&["why", "-", "--at", at], log.as_bytes()).stdout);
-    let told = why("140");
+    let answer = why("140");
     for line in [
         "  wave driven              yes  53.3 % = 31.98 A",
         "  this sample proven       yes  high 6,000 mV is C, low -12,000 mV",
@@ -210,7 +210,10 @@ fn why_an_open_contactor_is_open() {
         "  pause                    no   2,981 ms left of 3,000, since the opening at 121",
         "The contactor waits for one more proven sample in C and the end of the pause at 3121.",
     ] {
-        assert!(told.lines().any(|told| told == line), "{line}\n{told}");
+        assert!(
+            answer.lines().any(|shown| shown == line),
+            "{line}\n{answer}"
+        );
     }
     assert!(why("45").contains("The contactor is closed since line 6, at 40."));
     assert!(why("121").contains("OPENED: 81 ms since the last sound sample (ii)"));
@@ -225,19 +228,19 @@ fn why_an_open_contactor_is_open() {
 #[test]
 fn a_refused_call_is_no_answer_to_why() {
     let log = "begin 0 32000 0 no\ntick 20\nlimit 25 80001\nlimit 26 80001\ntick 50\ntick 30\n";
-    let told = text(&run(&["why", "-", "--at", "40"], log.as_bytes()).stdout);
+    let answer = text(&run(&["why", "-", "--at", "40"], log.as_bytes()).stdout);
     assert!(
-        told.starts_with(
+        answer.starts_with(
             "at 40: the last accepted call is line 2, tick at 20, 20 ms before\nafter it 2 refused"
         ),
-        "{told}"
+        "{answer}"
     );
-    let told = text(&run(&["why", "-", "--at", "60"], log.as_bytes()).stdout);
+    let answer = text(&run(&["why", "-", "--at", "60"], log.as_bytes()).stdout);
     assert!(
-        told.starts_with(
+        answer.starts_with(
             "at 60: the last accepted call is line 5, tick at 50, 10 ms before\nafter it 1 refused"
         ),
-        "{told}"
+        "{answer}"
     );
 }
 
@@ -371,7 +374,7 @@ fn a_begin_starts_afresh() {
         "  previous sample proven   no   there is none since begin",
         "The contactor waits for a limit of 6,000 mA or more (it is 0), a settled state (it is U) and two proven samples in a row in one band.",
     ] {
-        assert!(why.lines().any(|told| told == line), "{line}\n{why}");
+        assert!(why.lines().any(|shown| shown == line), "{line}\n{why}");
     }
     // A line of the first list is asked for by its number.
     let first = text(&run(&["why", "-", "--line", "5"], log.as_bytes()).stdout);

@@ -37,27 +37,27 @@ fn answer(command: &str) -> String {
 }
 
 /// Are these lines of the answer, in their order?
-fn all_told(block: &[&str], told: &str) {
-    let mut lines = told.lines().map(str::trim_end);
+fn all_shown(block: &[&str], answered: &str) {
+    let mut lines = answered.lines().map(str::trim_end);
     for wanted in block {
         assert!(
             ["", ".."].contains(wanted) || lines.any(|line| line == *wanted),
-            "{wanted}\n{told}"
+            "{wanted}\n{answered}"
         );
     }
 }
 
 /// Checks the blocks of a document; how many commands they show.
 fn check(document: &str) -> usize {
-    let (mut commands, mut told) = (0, String::new());
+    let (mut commands, mut answered) = (0, String::new());
     for block in blocks(document) {
         let Some(first) = block.first() else { continue };
         if let Some(command) = first.strip_prefix("$ ./chuldariin ") {
             commands += 1;
-            told = answer(command);
-            all_told(&block[1..], &told);
+            answered = answer(command);
+            all_shown(&block[1..], &answered);
         } else if first.trim_start().starts_with(|c: char| c.is_ascii_digit()) {
-            all_told(&block, &told);
+            all_shown(&block, &answered);
         }
     }
     commands

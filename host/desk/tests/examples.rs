@@ -104,9 +104,12 @@ fn each_time_of_a_log_has_its_why() {
         for part in 0..20 {
             let mut out = Vec::new();
             why(&log, At::Time(last / 20 * part), Paint::none(), &mut out).expect("an answer");
-            let told = String::from_utf8(out).expect("UTF-8");
+            let answer = String::from_utf8(out).expect("UTF-8");
             let ends = ["The contactor waits for", "The contactor is closed since"];
-            assert!(ends.iter().any(|end| told.contains(end)), "{name}: {told}");
+            assert!(
+                ends.iter().any(|end| answer.contains(end)),
+                "{name}: {answer}"
+            );
         }
     }
 }
@@ -130,13 +133,13 @@ fn each_picture_is_well_formed() {
 
 /// A clock that starts anew, one time for all calls, and times at the far end.
 #[test]
-fn odd_times_have_their_picture() {
+fn unusual_times_have_their_picture() {
     for text in [
         "begin 500 32000 0 no\ntick 900\nbegin 100 16000 0 yes\ntick 300\nbegin 300 6000 0 no\n",
         "begin 7 32000 0 no\ntick 7\n",
         "begin 7 32000 0 no\ntick 1000000000000\ntick 5\n",
     ] {
-        let svg = plot(&read(text.as_bytes()), "odd", WHOLE).expect("a picture");
+        let svg = plot(&read(text.as_bytes()), "unusual", WHOLE).expect("a picture");
         well_formed(&svg, text);
         assert!(!svg.contains("NaN") && !svg.contains("inf"), "{text}");
     }

@@ -56,7 +56,7 @@ fn calls(style: usize, seed: u64) -> Vec<Call> {
 fn replay(calls: &[Call], counts: &mut Counts) {
     let mut post = Post::default();
     let mut lent = raw::Controller::ZEROED;
-    let mut told_closed = false;
+    let mut was_closed = false;
     for (place, call) in calls.iter().enumerate() {
         let before = lent;
         let reply = ask(&mut lent, call, &mut Room::default());
@@ -68,29 +68,29 @@ fn replay(calls: &[Call], counts: &mut Counts) {
             assert_eq!(previous, turn.before.previous);
         }
         if reply.refusal == 0 && !begins {
-            assert_eq!(turn.told.opened, told_closed && !reply.closed);
-            assert_eq!(turn.told.closing, !told_closed && reply.closed);
+            assert_eq!(turn.outcome.opened, was_closed && !reply.closed);
+            assert_eq!(turn.outcome.closing, !was_closed && reply.closed);
             judged(&turn, before, counts);
         } else {
-            assert!(!turn.told.opened && !turn.told.closing);
+            assert!(!turn.outcome.opened && !turn.outcome.closing);
         }
         if reply.refusal == 0 {
-            told_closed = reply.closed;
+            was_closed = reply.closed;
         }
     }
 }
 
 fn judged(turn: &Turn, before: raw::Controller, counts: &mut Counts) {
-    let causes: Vec<usize> = (0..5).filter(|&cause| turn.told.causes[cause]).collect();
-    if turn.told.opened {
+    let causes: Vec<usize> = (0..5).filter(|&cause| turn.outcome.causes[cause]).collect();
+    if turn.outcome.opened {
         causes_alone_open(turn, before, &causes);
-        told_in_words(turn, &causes);
+        named_in_words(turn, &causes);
         *counts.openings.entry(causes).or_default() += 1;
     } else {
         assert!(causes.is_empty());
     }
-    if turn.told.closing {
-        assert!(turn.told.conditions.all());
+    if turn.outcome.closing {
+        assert!(turn.outcome.conditions.all());
         counts.closings += 1;
     } else if !before.closed && turn.sample.is_some() {
         let missing = missing(turn);
@@ -160,7 +160,7 @@ fn settle_a(lent: &mut raw::Controller) {
 }
 
 /// The note of an opening has each cause, by its number, and its figures.
-fn told_in_words(turn: &Turn, causes: &[usize]) {
+fn named_in_words(turn: &Turn, causes: &[usize]) {
     let notes = notes(turn);
     let opened = notes.iter().find(|note| note.kind == Kind::Opened);
     let words = &opened.expect("an opening is told").words;
@@ -168,14 +168,17 @@ fn told_in_words(turn: &Turn, causes: &[usize]) {
         assert_eq!(words.contains(numeral), causes.contains(&cause), "{words}");
     }
     for cause in causes {
-        let told = because(turn, *cause);
+        let reason = because(turn, *cause);
         let figure = match cause {
             0 | 3 => "at ",
             1 => " ms since",
             2 => "state D",
             _ => "fault: ",
         };
-        assert!(words.contains(&told) && told.contains(figure), "{words}");
+        assert!(
+            words.contains(&reason) && reason.contains(figure),
+            "{words}"
+        );
     }
 }
 
@@ -187,7 +190,7 @@ const PAUSE: usize = 4;
 
 /// The conditions of an open contactor and a sample that do not hold.
 fn missing(turn: &Turn) -> Vec<usize> {
-    let c = &turn.told.conditions;
+    let c = &turn.outcome.conditions;
     assert!(c.open_before && c.not_opened && c.sample);
     let held = [
         c.wave_driven,

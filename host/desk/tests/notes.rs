@@ -1,11 +1,11 @@
 //! What a line tells of a call.
 
-use tool::{line, told, CHARGE, PLUGGED};
+use tool::{answer, line, CHARGE, PLUGGED};
 
 mod tool;
 
 fn replayed(log: &str) -> String {
-    told(&["replay", "-"], log)
+    answer(&["replay", "-"], log)
 }
 
 #[test]
@@ -20,29 +20,29 @@ fn rare_calls() {
         ("sample 50 6000 -20000\n", "7 ", "REFUSED 5: reading 129 is -20,000 mV, where -15,000 to 15,000 are allowed"),
         ("window 50 1 2\n", "7 ", "REFUSED 4: 2 readings, where 256 to 1,024 are allowed"),
     ] {
-        let told = replayed(&format!("{CHARGE}{calls}"));
-        let row = line(&told, start);
+        let answer = replayed(&format!("{CHARGE}{calls}"));
+        let row = line(&answer, start);
         assert!(row.ends_with(note), "{row}");
     }
-    let told = replayed(&format!(
+    let answer = replayed(&format!(
         "{PLUGGED}sample 30 9000 9000\nsample 40 9000 9000\n"
     ));
     let note =
         "fault 1 (no diode): low 9,000 mV at 30 and 9,000 mV at 40 are outside -13,000 to -11,000";
-    assert!(line(&told, "6 ").ends_with(note), "{told}");
+    assert!(line(&answer, "6 ").ends_with(note), "{answer}");
 }
 
 #[test]
 fn a_comment_can_do_no_harm() {
-    let told = replayed("begin 0 32000 0 no\n# \u{1b}[2J away\n");
-    assert!(!told.contains('\u{1b}') && told.contains("[2J away"));
+    let answer = replayed("begin 0 32000 0 no\n# \u{1b}[2J away\n");
+    assert!(!answer.contains('\u{1b}') && answer.contains("[2J away"));
 }
 
 #[test]
 fn a_refused_begin_changes_nothing() {
     let log = format!("{CHARGE}begin 50 1 0 no\ntick 60\n");
-    let told = told(&["replay", "-", "--only", "changes"], &log);
-    let table = told.split("\n\nsummary").next().expect("a table");
+    let answer = answer(&["replay", "-", "--only", "changes"], &log);
+    let table = answer.split("\n\nsummary").next().expect("a table");
     let lines: Vec<&str> = table.lines().skip(1).map(|row| row[..4].trim()).collect();
     assert_eq!(lines, ["1", "4", "6", "7"]);
 }
@@ -50,18 +50,18 @@ fn a_refused_begin_changes_nothing() {
 #[test]
 fn closings_just_the_pause_apart() {
     let again = "fault 40 3\nclear 40\nsample 50 9000 9000\nsample 60 9000 9000\nsample 3030 6000 -12000\nsample 3040 6000 -12000\n";
-    let told = replayed(&format!("{CHARGE}{again}"));
-    line(&told, "spacing   shortest time between two closings 3,000 ms (at 40 and 3040); the pause is 3,000 ms: kept");
+    let answer = replayed(&format!("{CHARGE}{again}"));
+    line(&answer, "spacing   shortest time between two closings 3,000 ms (at 40 and 3040); the pause is 3,000 ms: kept");
 }
 
 #[test]
 fn the_greater_half_is_the_high_level() {
-    let told = replayed(&format!(
+    let answer = replayed(&format!(
         "{CHARGE}sample 50 -12000 6000\nsample 60 -12000 9000\n"
     ));
     assert!(
-        line(&told, "7 ").contains("sample -12,000 / 6,000    C proven"),
-        "{told}"
+        line(&answer, "7 ").contains("sample -12,000 / 6,000    C proven"),
+        "{answer}"
     );
-    assert!(line(&told, "8 ").contains("B unsound"), "{told}");
+    assert!(line(&answer, "8 ").contains("B unsound"), "{answer}");
 }

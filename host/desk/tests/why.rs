@@ -1,41 +1,41 @@
 //! What `why` tells of each closing condition.
 
-use tool::{line, run, text, told, CHARGE, PLUGGED};
+use tool::{answer, line, run, text, CHARGE, PLUGGED};
 
 mod tool;
 
 fn why(log: &str, at: &str) -> String {
-    told(&["why", "-", "--at", at], log)
+    answer(&["why", "-", "--at", at], log)
 }
 
 /// A condition's yes or no, and what is behind it.
-fn says(told: &str, condition: &str, words: &str) {
-    let line = line(told, condition);
-    assert_eq!(line.split_at(27).1.trim(), words, "{told}");
+fn says(answer: &str, condition: &str, words: &str) {
+    let line = line(answer, condition);
+    assert_eq!(line.split_at(27).1.trim(), words, "{answer}");
 }
 
 /// The last line.
-fn waits(told: &str, words: &str) {
+fn waits(answer: &str, words: &str) {
     let last = format!("The contactor waits for {words}.");
-    assert_eq!(told.lines().last(), Some(last.as_str()));
+    assert_eq!(answer.lines().last(), Some(last.as_str()));
 }
 
 #[test]
 fn after_begin() {
-    let told = why("begin 0 32000 3000 no\n", "0");
-    says(&told, "contactor open before", "yes");
-    says(&told, "not opened in this call", "yes");
-    says(&told, "a sample call", "no   begin 32,000 mA");
+    let answer = why("begin 0 32000 3000 no\n", "0");
+    says(&answer, "contactor open before", "yes");
+    says(&answer, "not opened in this call", "yes");
+    says(&answer, "a sample call", "no   begin 32,000 mA");
     says(
-        &told,
+        &answer,
         "wave driven",
         "no   +12 V: limit 0 mA is below 6,000, and no state is settled (U)",
     );
-    says(&told, "this sample", "no   no sample in this call");
-    says(&told, "previous sample", "no   there is none since begin");
-    says(&told, "both in one band", "no   no sample in this call");
-    says(&told, "pause", "yes  not opened since begin");
-    waits(&told, "a limit of 6,000 mA or more (it is 0), a settled state (it is U) and two proven samples in a row in one band");
+    says(&answer, "this sample", "no   no sample in this call");
+    says(&answer, "previous sample", "no   there is none since begin");
+    says(&answer, "both in one band", "no   no sample in this call");
+    says(&answer, "pause", "yes  not opened since begin");
+    waits(&answer, "a limit of 6,000 mA or more (it is 0), a settled state (it is U) and two proven samples in a row in one band");
 }
 
 #[test]
@@ -72,10 +72,10 @@ fn a_wave_that_is_not_driven() {
             "a clear call (fault: residual current, welded contact), a settled state (it is U)",
         ),
     ] {
-        let told = why(&format!("begin 0 32000 3000 no\n{calls}"), "20");
-        says(&told, "wave driven", &format!("no   {steady}"));
+        let answer = why(&format!("begin 0 32000 3000 no\n{calls}"), "20");
+        says(&answer, "wave driven", &format!("no   {steady}"));
         waits(
-            &told,
+            &answer,
             &format!("{wanted} and two proven samples in a row in one band"),
         );
     }
@@ -96,47 +96,47 @@ fn a_sample_that_is_not_proven() {
         ),
         ("6000 -13000", "yes  high 6,000 mV is C, low -13,000 mV"),
     ] {
-        let told = why(&format!("{PLUGGED}sample 30 {levels}\n"), "30");
-        says(&told, "this sample", words);
+        let answer = why(&format!("{PLUGGED}sample 30 {levels}\n"), "30");
+        says(&answer, "this sample", words);
     }
-    let told = why("begin 0 32000 0 no\nsample 10 6000 6000\n", "10");
+    let answer = why("begin 0 32000 0 no\nsample 10 6000 6000\n", "10");
     says(
-        &told,
+        &answer,
         "this sample",
         "no   the wave was not driven before its call",
     );
     let ventilated = PLUGGED.replace("no", "yes");
-    let told = why(&format!("{ventilated}sample 30 3000 -12000\n"), "30");
+    let answer = why(&format!("{ventilated}sample 30 3000 -12000\n"), "30");
     says(
-        &told,
+        &answer,
         "this sample",
         "yes  high 3,000 mV is D, low -12,000 mV",
     );
-    says(&told, "both in one band", "no   B, then D");
-    waits(&told, "one more proven sample in D");
+    says(&answer, "both in one band", "no   B, then D");
+    waits(&answer, "one more proven sample in D");
 }
 
 #[test]
 fn a_previous_sample_that_is_forgotten() {
-    let told = why(&format!("{CHARGE}tick 121\n"), "121");
-    says(&told, "contactor open before", "no");
-    says(&told, "not opened in this call", "no");
+    let answer = why(&format!("{CHARGE}tick 121\n"), "121");
+    says(&answer, "contactor open before", "no");
+    says(&answer, "not opened in this call", "no");
     says(
-        &told,
+        &answer,
         "previous sample",
         "no   it is forgotten in this call",
     );
-    let told = why(
+    let answer = why(
         &format!("{CHARGE}sample 50 3000 -12000\nsample 60 3000 -12000\n"),
         "60",
     );
     says(
-        &told,
+        &answer,
         "both in one band",
         "no   the previous sample is forgotten in this call",
     );
     line(
-        &told,
+        &answer,
         "OPENED: state D, and the post has no ventilation (iii); line 8, at 60",
     );
     let ready = format!("{PLUGGED}sample 30 6000 -12000\nfault 35 3\n");
@@ -155,14 +155,14 @@ fn a_previous_sample_that_is_forgotten() {
         "previous sample",
         "no   it was forgotten by the opening at 50",
     );
-    let told = why(&format!("{ready}tick 45\nsample 50 -12000 -12000\n"), "50");
+    let answer = why(&format!("{ready}tick 45\nsample 50 -12000 -12000\n"), "50");
     says(
-        &told,
+        &answer,
         "previous sample",
         "no   it was forgotten by the fault at 35",
     );
     says(
-        &told,
+        &answer,
         "both in one band",
         "no   no previous sample, then no band",
     );
@@ -171,25 +171,25 @@ fn a_previous_sample_that_is_forgotten() {
 #[test]
 fn the_pause_to_the_millisecond() {
     let opened = format!("{CHARGE}tick 121\n");
-    let told = why(&format!("{opened}tick 3120\n"), "3120");
+    let answer = why(&format!("{opened}tick 3120\n"), "3120");
     says(
-        &told,
+        &answer,
         "pause",
         "no   1 ms left of 3,000, since the opening at 121",
     );
     waits(
-        &told,
+        &answer,
         "two proven samples in a row in one band and the end of the pause at 3121",
     );
-    let told = why(&format!("{opened}tick 3121\n"), "3121");
+    let answer = why(&format!("{opened}tick 3121\n"), "3121");
     says(
-        &told,
+        &answer,
         "pause",
         "yes  over: opened at 121, 3,000 ms ago; the pause is 3,000 ms",
     );
-    waits(&told, "two proven samples in a row in one band");
+    waits(&answer, "two proven samples in a row in one band");
     line(
-        &told,
+        &answer,
         "OPENED: 81 ms since the last sound sample (ii); line 7, at 121",
     );
     let again = format!("{opened}sample 3200 6000 -12000\nsample 3210 6000 -12000\n");
@@ -246,12 +246,12 @@ fn the_last_opening_of_the_list() {
         log.push_str(&format!("sample {time} 6000 -12000\n"));
     }
     log.push_str("fault 3220 5\n");
-    let told = why(&log, "3220");
+    let answer = why(&log, "3220");
     line(
-        &told,
+        &answer,
         "OPENED: fault: over-temperature (v); line 10, at 3220",
     );
-    assert!(!told.contains("(ii)"));
-    let told = why(&format!("{log}begin 3300 32000 0 no\n"), "3300");
-    assert!(!told.contains("OPENED"), "{told}");
+    assert!(!answer.contains("(ii)"));
+    let answer = why(&format!("{log}begin 3300 32000 0 no\n"), "3300");
+    assert!(!answer.contains("OPENED"), "{answer}");
 }

@@ -115,7 +115,7 @@ pub fn parse(text: &[u8]) -> Result<Vec<Entry>, WrongLines> {
         match parse_line(line, bytes.strip_suffix(b"\r").unwrap_or(bytes)) {
             Ok(Some(what)) => entries.push(Entry { line, what }),
             Ok(None) => {}
-            Err(told) => wrong.add(told),
+            Err(mistake) => wrong.add(mistake),
         }
     }
     if wrong.first.is_empty() {

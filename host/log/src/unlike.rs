@@ -4,15 +4,15 @@ use chuldariin::raw;
 use chuldariin_model::{Reply, State};
 
 /// The parts in which two replies differ. The fault must be one that may be told.
-pub fn unlike(said: &raw::Reply, told: &Reply) -> Vec<&'static str> {
+pub fn unlike(archive: &raw::Reply, model: &Reply) -> Vec<&'static str> {
     let parts = [
-        ("refusal", said.refusal == told.refusal),
-        ("letter", said.letter == told.letter),
-        ("digit", said.digit == told.digit),
-        ("wave", said.wave == told.wave),
-        ("contactor", said.closed == told.closed),
-        ("fault", told.may_tell(said.fault.into())),
-        ("closings", said.closings == told.closings),
+        ("refusal", archive.refusal == model.refusal),
+        ("letter", archive.letter == model.letter),
+        ("digit", archive.digit == model.digit),
+        ("wave", archive.wave == model.wave),
+        ("contactor", archive.closed == model.closed),
+        ("fault", model.may_tell(archive.fault.into())),
+        ("closings", archive.closings == model.closings),
     ];
     let unlike = parts.iter().filter(|part| !part.1);
     unlike.map(|part| part.0).collect()

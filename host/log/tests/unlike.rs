@@ -12,11 +12,11 @@ use chuldariin_model::Reply;
 fn every_difference_is_told() {
     let mut lent = Controller::ZEROED;
     let list = calls("begin 5 32000 0 no").expect("a list");
-    let said = ask(&mut lent, &list[0], &mut Room::default());
+    let archive = ask(&mut lent, &list[0], &mut Room::default());
     let state = meaning(&lent);
-    let told = Reply::of(&state, 0);
-    assert!(unlike(&said, &told).is_empty() && unlike_kept(&state, &state).is_empty());
-    let mut other = said;
+    let model = Reply::of(&state, 0);
+    assert!(unlike(&archive, &model).is_empty() && unlike_kept(&state, &state).is_empty());
+    let mut other = archive;
     (other.refusal, other.letter, other.digit, other.wave) = (1, b'A', 1, 100);
     (other.closed, other.fault, other.closings) = (true, 3, 1);
     let all = [
@@ -28,7 +28,7 @@ fn every_difference_is_told() {
         "fault",
         "closings",
     ];
-    assert_eq!(unlike(&other, &told), all);
+    assert_eq!(unlike(&other, &model), all);
     let mut other = state;
     (other.limit, other.stop, other.faults[2]) = (1, Some(5), true);
     assert_eq!(

@@ -3,7 +3,7 @@
 use crate::state::{Event, State};
 use crate::steps::{run, Conditions};
 use crate::table::{check, refusal_of_begin};
-use crate::window::{levels, Weighed};
+use crate::window::{levels, Evaluated};
 
 /// What begin's pause 0 means, ms.
 const USUAL_PAUSE: u64 = 3_000;
@@ -71,7 +71,7 @@ impl Reply {
 
 /// What one call did.
 #[derive(Clone, Copy, Debug, PartialEq, Eq)]
-pub struct Told {
+pub struct Outcome {
     pub reply: Reply,
     /// Causes (i) to (v) of step 4; all false with the contactor open.
     pub causes: [bool; 5],
@@ -83,10 +83,10 @@ pub struct Told {
     pub conditions: Conditions,
 }
 
-impl Told {
+impl Outcome {
     /// A reply beside which no step was done.
-    pub fn nothing(reply: Reply) -> Told {
-        Told {
+    pub fn without_steps(reply: Reply) -> Outcome {
+        Outcome {
             reply,
             causes: [false; 5],
             opened: false,
@@ -126,22 +126,22 @@ pub fn begin(b: &Begin) -> Result<(State, Reply), u8> {
 impl State {
     /// One call on this controller, which may be any controller at all.
     /// A refused call hands back an equal state.
-    pub fn call(&self, time: u64, event: &Event) -> (State, Told) {
-        self.call_weighed(levels, time, event)
+    pub fn call(&self, time: u64, event: &Event) -> (State, Outcome) {
+        self.call_evaluated(levels, time, event)
     }
 
     /// The same, with another way to find the levels of a window: the model's own takes its time.
-    pub fn call_weighed(
+    pub fn call_evaluated(
         &self,
-        weigh: impl FnOnce(&[i32]) -> Weighed,
+        evaluate: impl FnOnce(&[i32]) -> Evaluated,
         time: u64,
         event: &Event,
-    ) -> (State, Told) {
-        match check(self, weigh, time, event) {
-            Err(refusal) => (*self, Told::nothing(Reply::of(self, refusal))),
+    ) -> (State, Outcome) {
+        match check(self, evaluate, time, event) {
+            Err(refusal) => (*self, Outcome::without_steps(Reply::of(self, refusal))),
             Ok(levels) => {
                 let run = run(self, time, event, levels);
-                let told = Told {
+                let outcome = Outcome {
                     reply: Reply::of(&run.state, 0),
                     causes: run.causes,
                     opened: run.opened,
@@ -149,7 +149,7 @@ impl State {
                     latched: run.latched,
                     conditions: run.conditions,
                 };
-                (run.state, told)
+                (run.state, outcome)
             }
         }
     }

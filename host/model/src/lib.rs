@@ -30,8 +30,9 @@
 //! 4. A last accepted time above the largest time is no refusal 1 of itself:
 //!    every call on it is refused 3 or 2.
 //! 5. 1,000,000,001 closings are in range, and the call may still add one.
-//! 6. Refusal 1 looks at nothing else: an odd verdict of the previous sample,
-//!    a driven wave under a latched fault and the like are taken as they are.
+//! 6. Refusal 1 looks at nothing else: a contradictory verdict of the previous
+//!    sample, a driven wave under a latched fault and the like are taken as they
+//!    are.
 //! 7. Begin knows only 3 and 1, in that order.
 //!
 //! Samples
@@ -69,10 +70,10 @@ mod steps;
 mod table;
 mod window;
 
-pub use call::{begin, Begin, Reply, Told};
+pub use call::{begin, Begin, Outcome, Reply};
 pub use duty::{driven, duty_for, reading, Reading, LEAST_CURRENT};
 pub use pilot::{band, in_low_band, verdict, Band, Verdict};
 pub use state::{Event, State};
 pub use steps::{Conditions, OVERRUN_AGE, SOUND_AGE, STOP_AGE};
 pub use table::refusal_of_call;
-pub use window::{levels, Weighed, ENOUGH, LONGEST, NEAR, READING_END, SHORTEST};
+pub use window::{levels, Evaluated, ENOUGH, LONGEST, NEAR, READING_END, SHORTEST};

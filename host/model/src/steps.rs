@@ -118,8 +118,8 @@ impl Run {
         if !self.state.closed || !driven(self.state.wave) {
             return;
         }
-        if let Ok(Reading::Current(told)) = reading(self.state.wave) {
-            if 10 * current > 11 * told {
+        if let Ok(Reading::Current(announced)) = reading(self.state.wave) {
+            if 10 * current > 11 * announced {
                 self.state.overrun = self.state.overrun.or(Some(self.time));
             } else {
                 self.state.overrun = None;

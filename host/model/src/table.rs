@@ -2,7 +2,7 @@
 
 use crate::duty::driven;
 use crate::state::{Event, State};
-use crate::window::{levels, Weighed};
+use crate::window::{levels, Evaluated};
 
 /// The largest time, ms.
 const LARGEST_TIME: u64 = 1_000_000_000_000;
@@ -35,7 +35,7 @@ pub fn refusal_of_call(state: &State, time: u64, event: &Event) -> u8 {
 /// An accepted sample gets its high and low level.
 pub(crate) fn check(
     state: &State,
-    weigh: impl FnOnce(&[i32]) -> Weighed,
+    evaluate: impl FnOnce(&[i32]) -> Evaluated,
     time: u64,
     event: &Event,
 ) -> Result<Option<(i32, i32)>, u8> {
@@ -49,7 +49,7 @@ pub(crate) fn check(
         return Err(1);
     }
     match *event {
-        Event::Sample(window) => weigh(window).map(Some),
+        Event::Sample(window) => evaluate(window).map(Some),
         Event::Limit(limit) if limit > LARGEST_LIMIT => Err(7),
         Event::Measure(current) if current > LARGEST_MEASURE => Err(7),
         Event::Fault(kind) if !(3..=5).contains(&kind) => Err(8),

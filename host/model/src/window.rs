@@ -14,10 +14,10 @@ pub const NEAR: i32 = 200;
 pub const ENOUGH: usize = 8;
 
 /// High and low level of a window, or refusal 4, 5 or 6.
-pub type Weighed = Result<(i32, i32), u8>;
+pub type Evaluated = Result<(i32, i32), u8>;
 
 /// The levels of a window.
-pub fn levels(window: &[i32]) -> Weighed {
+pub fn levels(window: &[i32]) -> Evaluated {
     if window.len() < SHORTEST || window.len() > LONGEST {
         return Err(4);
     }

@@ -33,9 +33,9 @@ fn charging() -> State {
 fn no_sound_sample_so_far_opens() {
     let mut state = charging();
     state.sound = None;
-    let (next, told) = state.call(10_000, &Event::Tick);
-    assert_eq!(told.causes, [false, true, false, false, false]);
-    assert!(told.opened && !next.closed && next.previous.is_none());
+    let (next, outcome) = state.call(10_000, &Event::Tick);
+    assert_eq!(outcome.causes, [false, true, false, false, false]);
+    assert!(outcome.opened && !next.closed && next.previous.is_none());
     assert_eq!(next.opening, Some(10_000));
 }
 
@@ -45,8 +45,8 @@ fn old_over_run_latches_with_the_contactor_open() {
     state.closed = false;
     state.overrun = Some(5_000);
     // A measure does nothing with the contactor open.
-    let (next, told) = state.call(10_000, &Event::Measure(0));
-    assert_eq!(told.latched, [false, true, false, false, false]);
+    let (next, outcome) = state.call(10_000, &Event::Measure(0));
+    assert_eq!(outcome.latched, [false, true, false, false, false]);
     assert_eq!((next.wave, next.overrun, next.settled), (0, None, None));
     state.overrun = Some(5_001);
     let (next, _) = state.call(10_000, &Event::Measure(0));
@@ -68,8 +68,8 @@ fn latch_of_a_latched_fault_unsettles_and_forgets() {
         } else {
             Event::Tick
         };
-        let (next, told) = state.call(10_000, &event);
-        assert!(told.latched[fault - 1]);
+        let (next, outcome) = state.call(10_000, &event);
+        assert!(outcome.latched[fault - 1]);
         assert_eq!((next.settled, next.previous), (None, None));
     }
 }
@@ -81,24 +81,24 @@ fn fault_call_again_unsettles_and_forgets() {
     let (state, _) = state.call(10_000, &Event::Fault(3));
     let twelve = window(12_000, 12_000);
     let (state, _) = state.call(10_010, &Event::Sample(&twelve));
-    let (state, told) = state.call(10_020, &Event::Sample(&twelve));
+    let (state, outcome) = state.call(10_020, &Event::Sample(&twelve));
     assert_eq!(state.settled, Some(Band::A));
-    assert_eq!((told.reply.letter, told.reply.digit), (b'F', 0));
+    assert_eq!((outcome.reply.letter, outcome.reply.digit), (b'F', 0));
     let (again, _) = state.call(10_030, &Event::Fault(3));
     assert_eq!((again.settled, again.previous), (None, None));
-    let (cleared, told) = state.call(10_030, &Event::Clear);
+    let (cleared, outcome) = state.call(10_030, &Event::Clear);
     assert_eq!(cleared.settled, Some(Band::A));
-    assert_eq!((told.reply.letter, told.reply.digit), (b'A', 1));
+    assert_eq!((outcome.reply.letter, outcome.reply.digit), (b'A', 1));
 }
 
 #[test]
 fn pair_counts_in_step_4_after_a_latch() {
     let mut state = charging();
     state.previous = Some(verdict(6_000, 0, 533, false));
-    let (next, told) = state.call(10_000, &Event::Sample(&window(6_000, 0)));
-    assert_eq!(told.latched, [true, false, false, false, false]);
-    assert_eq!(told.causes, [true, false, false, false, true]);
-    assert!(!told.conditions.previous_proven && next.previous.is_none());
+    let (next, outcome) = state.call(10_000, &Event::Sample(&window(6_000, 0)));
+    assert_eq!(outcome.latched, [true, false, false, false, false]);
+    assert_eq!(outcome.causes, [true, false, false, false, true]);
+    assert!(!outcome.conditions.previous_proven && next.previous.is_none());
 }
 
 #[test]
@@ -115,12 +115,12 @@ fn driven_wave_ends_the_stop_with_the_contactor_open() {
 fn settled_d_without_ventilation_opens() {
     let mut state = charging();
     state.previous = Some(verdict(3_000, -12_000, 533, false));
-    let (next, told) = state.call(10_000, &Event::Sample(&window(3_000, -12_000)));
-    assert_eq!(told.causes, [false, false, true, false, false]);
+    let (next, outcome) = state.call(10_000, &Event::Sample(&window(3_000, -12_000)));
+    assert_eq!(outcome.causes, [false, false, true, false, false]);
     assert_eq!((next.wave, next.stop), (1_000, None));
     state.ventilation = true;
-    let (next, told) = state.call(10_000, &Event::Sample(&window(3_000, -12_000)));
-    assert_eq!(told.causes, [false; 5]);
+    let (next, outcome) = state.call(10_000, &Event::Sample(&window(3_000, -12_000)));
+    assert_eq!(outcome.causes, [false; 5]);
     assert!(next.closed && next.wave == 533);
 }
 
@@ -129,12 +129,12 @@ fn closing_wants_one_band() {
     let mut state = charging();
     state.closed = false;
     state.ventilation = true;
-    let (next, told) = state.call(10_010, &Event::Sample(&window(3_000, -12_000)));
-    assert!(told.conditions.this_proven && told.conditions.previous_proven);
-    assert!(!told.conditions.same_band && !told.closing);
-    let (next, told) = next.call(10_020, &Event::Sample(&window(3_000, -12_000)));
-    assert!(told.closing && next.closings == 2);
-    assert_eq!(told.reply.letter, b'D');
+    let (next, outcome) = state.call(10_010, &Event::Sample(&window(3_000, -12_000)));
+    assert!(outcome.conditions.this_proven && outcome.conditions.previous_proven);
+    assert!(!outcome.conditions.same_band && !outcome.closing);
+    let (next, outcome) = next.call(10_020, &Event::Sample(&window(3_000, -12_000)));
+    assert!(outcome.closing && next.closings == 2);
+    assert_eq!(outcome.reply.letter, b'D');
 }
 
 #[test]
@@ -143,11 +143,11 @@ fn last_closing_that_fits() {
     state.closed = false;
     state.closings = 1_000_000_001;
     let ready = window(6_000, -12_000);
-    let (next, told) = state.call(10_000, &Event::Sample(&ready));
-    assert!(told.closing && next.closings == 1_000_000_002);
-    let (same, told) = next.call(10_000, &Event::Sample(&ready));
-    assert_eq!((told.reply.refusal, same), (1, next));
-    assert_eq!(told.reply.closings, 1_000_000_002);
+    let (next, outcome) = state.call(10_000, &Event::Sample(&ready));
+    assert!(outcome.closing && next.closings == 1_000_000_002);
+    let (same, outcome) = next.call(10_000, &Event::Sample(&ready));
+    assert_eq!((outcome.reply.refusal, same), (1, next));
+    assert_eq!(outcome.reply.closings, 1_000_000_002);
 }
 
 /// A small random source, enough to stir states.
@@ -210,13 +210,13 @@ impl Dice {
 }
 
 /// What must hold of any call on any state.
-fn hold_together(state: &State, time: u64, next: &State, told: &Told) {
-    assert_eq!(told.reply, Reply::of(next, told.reply.refusal));
-    assert_eq!(told.opened, state.closed && !next.closed);
-    assert_eq!(told.closing, !state.closed && next.closed);
-    assert_eq!(told.opened, told.causes.contains(&true));
-    assert_eq!(told.closing, told.conditions.all());
-    if told.reply.refusal == 0 {
+fn hold_together(state: &State, time: u64, next: &State, outcome: &Outcome) {
+    assert_eq!(outcome.reply, Reply::of(next, outcome.reply.refusal));
+    assert_eq!(outcome.opened, state.closed && !next.closed);
+    assert_eq!(outcome.closing, !state.closed && next.closed);
+    assert_eq!(outcome.opened, outcome.causes.contains(&true));
+    assert_eq!(outcome.closing, outcome.conditions.all());
+    if outcome.reply.refusal == 0 {
         assert_eq!(next.last, time);
     } else {
         assert_eq!(next, state);
@@ -241,9 +241,9 @@ fn any_state_takes_any_call() {
             _ => Event::Tick,
         };
         let time = dice.one(&[0, 10_000, 13_000, 1_000_000_000_000, u64::MAX]);
-        let (next, told) = state.call(time, &event);
-        hold_together(&state, time, &next, &told);
-        accepted += u32::from(told.reply.refusal == 0);
+        let (next, outcome) = state.call(time, &event);
+        hold_together(&state, time, &next, &outcome);
+        accepted += u32::from(outcome.reply.refusal == 0);
     }
     assert!(accepted > 1_000, "{accepted}");
 }

@@ -18,7 +18,7 @@ fn unsupported() -> Vec<i32> {
 
 struct Post {
     state: State,
-    told: Option<Told>,
+    outcome: Option<Outcome>,
 }
 
 impl Post {
@@ -31,19 +31,22 @@ impl Post {
         })
         .unwrap();
         assert_eq!(reply, Reply::of(&state, 0));
-        Post { state, told: None }
+        Post {
+            state,
+            outcome: None,
+        }
     }
 
     fn call(&mut self, time: u64, event: Event) -> Reply {
         let before = self.state;
-        let (state, told) = self.state.call(time, &event);
-        if told.reply.refusal != 0 {
+        let (state, outcome) = self.state.call(time, &event);
+        if outcome.reply.refusal != 0 {
             assert_eq!(state, before);
-            assert_eq!(told.reply, Reply::of(&before, told.reply.refusal));
+            assert_eq!(outcome.reply, Reply::of(&before, outcome.reply.refusal));
         }
         self.state = state;
-        self.told = Some(told);
-        told.reply
+        self.outcome = Some(outcome);
+        outcome.reply
     }
 
     fn sample(&mut self, time: u64, high: i32, low: i32) -> Reply {
@@ -70,7 +73,7 @@ impl Post {
         let reply = post.sample(40, 6_000, -12_000);
         assert_eq!((reply.letter, reply.digit, reply.wave), (b'C', 2, 533));
         assert_eq!((reply.closed, reply.closings), (true, 1));
-        assert!(post.told.unwrap().closing && post.told.unwrap().conditions.all());
+        assert!(post.outcome.unwrap().closing && post.outcome.unwrap().conditions.all());
         post
     }
 }
@@ -198,9 +201,9 @@ fn over_run() {
     assert_eq!(reply.faults, [false, true, false, false, false]);
     assert_eq!((reply.letter, reply.digit, reply.wave), (b'F', 0, 0));
     assert!(!reply.closed && reply.may_tell(2) && !reply.may_tell(0));
-    let told = post.told.unwrap();
-    assert_eq!(told.causes, [false, false, false, false, true]);
-    assert_eq!(told.latched, [false, true, false, false, false]);
+    let outcome = post.outcome.unwrap();
+    assert_eq!(outcome.causes, [false, false, false, false, true]);
+    assert_eq!(outcome.latched, [false, true, false, false, false]);
 }
 
 #[test]
@@ -219,7 +222,7 @@ fn bench_list_to_the_tick_at_121() {
     assert!(post.call(120, Event::Tick).closed);
     let reply = post.call(121, Event::Tick);
     assert_eq!((reply.closed, reply.closings), (false, 1));
-    let causes = post.told.unwrap().causes;
+    let causes = post.outcome.unwrap().causes;
     assert_eq!(causes, [false, true, false, false, false]);
 }
 
@@ -229,7 +232,7 @@ fn bench_list_with_two_b_samples() {
     assert!(post.sample(50, 9_000, -12_000).closed);
     let reply = post.sample(60, 9_000, -12_000);
     assert_eq!((reply.closed, reply.letter, reply.digit), (false, b'B', 2));
-    let causes = post.told.unwrap().causes;
+    let causes = post.outcome.unwrap().causes;
     assert_eq!(causes, [true, false, false, false, false]);
     let reply = post.ready(70, 3_050);
     assert_eq!((reply.closed, reply.closings), (false, 1));
@@ -246,7 +249,7 @@ fn bench_list_with_a_stop() {
     assert!(post.ready(5_010, 7_990).closed);
     assert!(post.call(7_999, Event::Tick).closed);
     assert!(!post.ready(8_000, 8_000).closed);
-    let causes = post.told.unwrap().causes;
+    let causes = post.outcome.unwrap().causes;
     assert_eq!(causes, [false, false, false, true, false]);
 }
 
@@ -322,7 +325,7 @@ fn window_refusals() {
     assert_eq!(levels(&[0; 1_024]), Ok((0, 0)));
     assert_eq!(levels(&[0; 1_025]), Err(4));
     assert_eq!(levels(&[]), Err(4));
-    for (reading, outcome) in [
+    for (reading, expected) in [
         (15_000, Ok((0, 0))),
         (-15_000, Ok((0, 0))),
         (15_001, Err(5)),
@@ -332,7 +335,7 @@ fn window_refusals() {
     ] {
         let mut there = vec![0; 256];
         there[255] = reading;
-        assert_eq!(levels(&there), outcome);
+        assert_eq!(levels(&there), expected);
     }
     assert_eq!(levels(&unsupported()), Err(6));
     let mut eighth = unsupported();

@@ -20,7 +20,7 @@ fn main() -> Result<(), String> {
     let calls = calls(&text).map_err(|wrong| wrong.to_string())?;
     for call in calls {
         match pair.step(&call) {
-            Ok(seen) => println!("{call}\n# {}", told(&seen.told.reply)),
+            Ok(seen) => println!("{call}\n# {}", in_words(&seen.outcome.reply)),
             Err(difference) => {
                 println!("{call}\n{}", both_sides(&difference));
                 return Err("the two sides differ".to_string());
@@ -30,7 +30,7 @@ fn main() -> Result<(), String> {
     Ok(())
 }
 
-fn told(reply: &Reply) -> String {
+fn in_words(reply: &Reply) -> String {
     if reply.letter == 0 {
         return format!("refusal {}, alone", reply.refusal);
     }

@@ -20,11 +20,11 @@
 //! | `shrink` | a shorter list that differs too |
 //! | `tally` | how often everything that should occur did |
 //! | `edges` | levels, numbers and times at the ends of their ranges |
-//! | `windows` | windows of readings, clean and odd |
+//! | `windows` | windows of readings, clean and irregular |
 //! | `author` | makes up calls by what the controller is doing |
 //! | `noise` | calls to be refused, and calls of any kind |
 //! | `scenes` | what happens at a charging post |
-//! | `odds` | scenes of windows, faults and clocks |
+//! | `disturbances` | scenes of irregular windows, faults, refused calls and clocks |
 //! | `styles` | the lists that the scenes make, each with its seed |
 //! | `wild` | controllers that a host has altered |
 //!
@@ -32,9 +32,9 @@
 
 pub mod author;
 pub mod dice;
+pub mod disturbances;
 pub mod edges;
 pub mod noise;
-pub mod odds;
 pub mod pair;
 pub mod scenes;
 pub mod shrink;

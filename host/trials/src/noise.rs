@@ -5,7 +5,7 @@ use crate::edges::{
     far_times, times, BAD_LOWS, BAD_PAUSES, BAD_RATED, CURRENTS, GOOD_LOWS, HIGHS, LARGEST, LOWS,
 };
 use crate::trial::Played;
-use crate::windows::{odd, scattered};
+use crate::windows::{irregular, scattered};
 use chuldariin_log::{Call, Window};
 use chuldariin_model::{Band, Begin};
 
@@ -107,11 +107,11 @@ impl Author {
         self.allowance() + over
     }
 
-    /// Mostly clean windows; also odd and bad ones.
+    /// Mostly clean windows; also irregular and bad ones.
     pub fn any_window(&mut self) -> Window {
         match self.dice.between(0, 31) {
             0 => self.bad_window().into(),
-            1 => odd(&mut self.dice).into(),
+            1 => irregular(&mut self.dice).into(),
             2..=4 => Window::Halves(self.dice.pick(&LOWS), self.dice.pick(&HIGHS)),
             5..=13 => Window::Halves(self.dice.pick(&HIGHS), self.dice.pick(&LOWS)),
             14..=17 => {

@@ -6,7 +6,7 @@ use chuldariin_log::ask::ask;
 use chuldariin_log::meaning::meaning;
 use chuldariin_log::unlike::{unlike, unlike_kept};
 use chuldariin_log::{Call, Room};
-use chuldariin_model::{levels, Reply, State, Told};
+use chuldariin_model::{levels, Outcome, Reply, State};
 
 /// One controller, as the archive keeps it and as the model does.
 #[derive(Clone, Copy, Debug)]
@@ -21,7 +21,7 @@ pub struct Seen<'a> {
     pub call: &'a Call,
     pub before: State,
     pub after: State,
-    pub told: Told,
+    pub outcome: Outcome,
 }
 
 /// A call on which they did not.
@@ -29,9 +29,9 @@ pub struct Seen<'a> {
 pub struct Difference {
     /// What differs.
     pub what: Vec<&'static str>,
-    pub said: raw::Reply,
+    pub archive_reply: raw::Reply,
     pub lent: raw::Controller,
-    pub told: Reply,
+    pub model_reply: Reply,
     pub state: State,
 }
 
@@ -44,14 +44,14 @@ impl Pair {
     /// Puts the call to both sides and compares all that they say and keep.
     pub fn step<'a>(&mut self, call: &'a Call) -> Result<Seen<'a>, Box<Difference>> {
         let before = *self;
-        let (said, only_read) = archive(&mut self.lent, call);
-        let (state, told) = answer(&before.state, call, levels, &mut Room::default());
+        let (reply, only_read) = archive(&mut self.lent, call);
+        let (state, outcome) = answer(&before.state, call, levels, &mut Room::default());
         self.state = state;
-        let mut what = unlike(&said, &told.reply);
+        let mut what = unlike(&reply, &outcome.reply);
         if !only_read {
             what.push("the window was written to");
         }
-        if said.refusal != 0 && self.lent != before.lent {
+        if reply.refusal != 0 && self.lent != before.lent {
             what.push("a refused call changed the controller");
         }
         what.extend(unlike_kept(&meaning(&self.lent), &state));
@@ -60,14 +60,14 @@ impl Pair {
                 call,
                 before: before.state,
                 after: state,
-                told,
+                outcome,
             });
         }
         Err(Box::new(Difference {
             what,
-            said,
+            archive_reply: reply,
             lent: self.lent,
-            told: told.reply,
+            model_reply: outcome.reply,
             state,
         }))
     }
@@ -81,8 +81,8 @@ fn archive(lent: &mut raw::Controller, call: &Call) -> (raw::Reply, bool) {
         let mut copy = readings.clone();
         let first = copy.as_mut_ptr();
         // SAFETY: `lent` is a `&mut`, and the copy has so many readings.
-        let said = unsafe { raw::chuldariin_sample(lent, *time, first, copy.len()) };
-        return (said, copy == readings);
+        let reply = unsafe { raw::chuldariin_sample(lent, *time, first, copy.len()) };
+        return (reply, copy == readings);
     }
     (ask(lent, call, &mut Room::default()), true)
 }

@@ -94,7 +94,7 @@ pub fn unsound(author: &mut Author) -> Played {
             0 => author.van(Band::B)?,
             1 => author.van(Band::A)?,
             2 => author.van(Band::E)?,
-            3 => odd_level(author, &[1_500, 7_500, 7_501, 1_001, 4_500])?,
+            3 => sample_at_one_of(author, &[1_500, 7_500, 7_501, 1_001, 4_500])?,
             _ => {
                 let time = author.soon();
                 author.no_diode_at(time, Band::C)?
@@ -118,7 +118,7 @@ fn between(author: &mut Author) -> Played {
 }
 
 /// A sample at one of these high levels, with a good low level.
-fn odd_level(author: &mut Author, highs: &[i32]) -> Played {
+fn sample_at_one_of(author: &mut Author, highs: &[i32]) -> Played {
     let (time, high) = (author.soon(), author.dice.pick(highs));
     let low = author.dice.pick(&GOOD_LOWS);
     author.sample(time, high, low)
@@ -134,7 +134,7 @@ pub fn no_band(author: &mut Author) -> Played {
         if author.dice.one_in(3) {
             author.van(Band::C)?;
         } else {
-            odd_level(author, &highs)?;
+            sample_at_one_of(author, &highs)?;
         }
     }
     Ok(())
@@ -218,7 +218,7 @@ impl Author {
     /// The greatest current that starts no over-run under the present wave.
     pub fn allowance(&self) -> u32 {
         match reading(self.state().wave) {
-            Ok(Reading::Current(told)) => 11 * told / 10,
+            Ok(Reading::Current(announced)) => 11 * announced / 10,
             _ => 0,
         }
     }

@@ -1,7 +1,7 @@
 //! The lists of the trials: styles of scenes, each with its seeds.
 
 use crate::author::{Author, Scene};
-use crate::odds::*;
+use crate::disturbances::*;
 use crate::scenes::*;
 use crate::trial::Played;
 use std::ops::Range;
@@ -26,7 +26,7 @@ pub const STYLES: [Style; 8] = [
         1_000,
         &[faults, no_diode, starve, late_d, stop_unseen],
     ),
-    ("windows", 500, &[odd_windows, odd_among_good]),
+    ("windows", 500, &[irregular_windows, irregular_among_good]),
     ("refusals", 800, &[refusals, begin_again, close, unbegun]),
     ("clock", 600, &[last_moments, begin_again, close, starve]),
     ("anything", 2_500, &[anything, anything_closed]),

@@ -83,7 +83,7 @@ impl Tally {
 
     /// Counts one call on which both sides agreed.
     pub fn see(&mut self, seen: &Seen) {
-        let reply = seen.told.reply;
+        let reply = seen.outcome.reply;
         self.count("refusal", REFUSALS[reply.refusal as usize]);
         self.see_state(reply.letter, reply.digit);
         if let Call::Sample(_, window) = seen.call {
@@ -97,15 +97,15 @@ impl Tally {
         self.count("accepted", seen.call.word());
         self.see_contactor(seen);
         self.see_ages(seen);
-        self.see_conditions(&seen.told.conditions);
+        self.see_conditions(&seen.outcome.conditions);
         if let Call::Sample(_, window) = seen.call {
             self.see_window(&window.to_vec());
         }
     }
 
     fn see_state(&mut self, letter: u8, digit: u8) {
-        let told = [letter, b'0' + digit];
-        if let Some(name) = STATES.iter().find(|name| name.as_bytes() == told) {
+        let state = [letter, b'0' + digit];
+        if let Some(name) = STATES.iter().find(|name| name.as_bytes() == state) {
             self.count("state", name);
         }
     }
@@ -116,7 +116,7 @@ impl Tally {
         let Some(event) = seen.call.event(&mut room) else {
             return;
         };
-        match seen.told.reply.refusal {
+        match seen.outcome.reply.refusal {
             3 if seen.call.time() < seen.before.last => self.count("order", "3 over 2"),
             3 if altered(&seen.before) => self.count("order", "3 over 1"),
             2 if altered(&seen.before) => self.count("order", "2 over 1"),
@@ -126,19 +126,19 @@ impl Tally {
     }
 
     fn see_contactor(&mut self, seen: &Seen) {
-        let told = &seen.told;
+        let outcome = &seen.outcome;
         for (fault, name) in FAULTS.iter().enumerate() {
-            if told.latched[fault] {
+            if outcome.latched[fault] {
                 self.count("latched", name);
             }
         }
-        let set = (0..5).filter(|&cause| told.causes[cause]);
+        let set = (0..5).filter(|&cause| outcome.causes[cause]);
         let set: usize = set.map(|cause| 1 << cause).sum();
-        if told.opened {
+        if outcome.opened {
             self.count("opened by", CAUSES[set]);
         }
-        if told.closing {
-            let ready = if told.reply.letter == b'D' {
+        if outcome.closing {
+            let ready = if outcome.reply.letter == b'D' {
                 "in D"
             } else {
                 "in C"
@@ -149,25 +149,25 @@ impl Tally {
 
     /// Ages at the ends of their rules.
     fn see_ages(&mut self, seen: &Seen) {
-        let (before, after, told) = (&seen.before, &seen.after, &seen.told);
+        let (before, after, outcome) = (&seen.before, &seen.after, &seen.outcome);
         let time = seen.call.time();
         let age = |start: Option<u64>| start.and_then(|start| time.checked_sub(start));
         match age(after.sound) {
             Some(80) if before.closed && after.closed => self.count("age", "sound 80, closed"),
-            Some(81) if before.closed && told.causes[1] => self.count("age", "sound 81, opens"),
+            Some(81) if before.closed && outcome.causes[1] => self.count("age", "sound 81, opens"),
             _ => {}
         }
         match age(before.stop) {
             Some(2_999) if after.stop.is_some() => self.count("age", "stop 2,999, runs"),
-            Some(3_000) if told.causes[3] => self.count("age", "stop 3,000, opens"),
+            Some(3_000) if outcome.causes[3] => self.count("age", "stop 3,000, opens"),
             _ => {}
         }
         match age(before.overrun) {
             Some(4_999) if after.overrun.is_some() => self.count("age", "over-run 4,999, runs"),
-            Some(5_000) if told.latched[1] => self.count("age", "over-run 5,000, latches"),
+            Some(5_000) if outcome.latched[1] => self.count("age", "over-run 5,000, latches"),
             _ => {}
         }
-        self.see_pause(before, age(before.opening), &told.conditions);
+        self.see_pause(before, age(before.opening), &outcome.conditions);
     }
 
     fn see_pause(&mut self, before: &State, age: Option<u64>, conditions: &Conditions) {

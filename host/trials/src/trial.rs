@@ -94,6 +94,6 @@ pub fn both_sides(d: &Difference) -> String {
     let what = d.what.join(", ");
     format!(
         "# differs: {what}\n# archive told:  {:?}\n# model told:    {:?}\n# archive keeps: {:?}\n# model keeps:   {:?}\n",
-        d.said, d.told, d.lent, d.state
+        d.archive_reply, d.model_reply, d.lent, d.state
     )
 }

@@ -56,16 +56,16 @@ pub fn wild(dice: &mut Dice) -> raw::Controller {
 }
 
 /// Mostly one of the usual ones.
-fn seldom<T: Copy>(dice: &mut Dice, odd: &[T], usual: &[T]) -> T {
+fn seldom<T: Copy>(dice: &mut Dice, rare: &[T], usual: &[T]) -> T {
     if dice.one_in(40) {
-        dice.pick(odd)
+        dice.pick(rare)
     } else {
         dice.pick(usual)
     }
 }
 
 fn wild_last(dice: &mut Dice) -> u64 {
-    let odd = [
+    let rare = [
         0,
         1,
         LARGEST - 1,
@@ -75,7 +75,7 @@ fn wild_last(dice: &mut Dice) -> u64 {
         u64::MAX,
     ];
     if dice.one_in(16) {
-        dice.pick(&odd)
+        dice.pick(&rare)
     } else {
         dice.pick(&[70_000, 100_000, LARGEST / 2])
     }

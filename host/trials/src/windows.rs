@@ -1,4 +1,4 @@
-//! Windows of readings, clean and odd.
+//! Windows of readings, clean and irregular.
 
 use crate::dice::Dice;
 use crate::edges::{GOOD_LOWS, HIGHS};
@@ -18,8 +18,8 @@ pub fn length(dice: &mut Dice) -> usize {
     }
 }
 
-/// An odd window of an allowed length.
-pub fn odd(dice: &mut Dice) -> Vec<i32> {
+/// A window of an allowed length that is no clean square wave.
+pub fn irregular(dice: &mut Dice) -> Vec<i32> {
     let length = length(dice);
     match dice.between(0, 9) {
         0..=3 => peaks(dice, length),

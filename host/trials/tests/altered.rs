@@ -249,8 +249,8 @@ fn single_calls(change: &Change, bases: &[raw::Controller]) -> Tally {
     for lent in bases.iter().flat_map(change.1) {
         let last = lent.last;
         let later = [0, 1, 81, 1 << 32].map(|step| last.saturating_add(step));
-        let odd = [last.wrapping_sub(1), LARGEST, LARGEST + 1, u64::MAX];
-        for call in later.into_iter().chain(odd).flat_map(calls_at) {
+        let extreme = [last.wrapping_sub(1), LARGEST, LARGEST + 1, u64::MAX];
+        for call in later.into_iter().chain(extreme).flat_map(calls_at) {
             let mut trial = Trial::from(lent);
             check(&mut trial, call, change.0);
             tally.add(&trial.tally);

@@ -16,25 +16,25 @@ const EXTREMES: [u32; 8] = [
     u32::MAX,
 ];
 
-fn archive_reading(duty: u32) -> raw::Reading {
+fn archive_reading(duty: u32) -> raw::ReadingReply {
     // SAFETY: only numbers go in and out.
     unsafe { raw::chuldariin_reading(duty) }
 }
 
-fn archive_duty(current: u32) -> raw::Duty {
+fn archive_duty(current: u32) -> raw::DutyReply {
     // SAFETY: only numbers go in and out.
     unsafe { raw::chuldariin_duty(current) }
 }
 
 /// The model's reading in the archive's form.
-fn model_reading(duty: u32) -> raw::Reading {
+fn model_reading(duty: u32) -> raw::ReadingReply {
     let (refusal, kind, current) = match reading(duty) {
         Ok(Reading::NoCharging) => (0, 0, 0),
         Ok(Reading::DigitalOnly) => (0, 1, 0),
         Ok(Reading::Current(current)) => (0, 2, current),
         Err(refusal) => (refusal, 0, 0),
     };
-    raw::Reading {
+    raw::ReadingReply {
         refusal,
         kind,
         current,
@@ -42,10 +42,27 @@ fn model_reading(duty: u32) -> raw::Reading {
 }
 
 /// The model's duty in the archive's form.
-fn model_duty(current: u32) -> raw::Duty {
+fn model_duty(current: u32) -> raw::DutyReply {
     match duty_for(current) {
-        Ok(duty) => raw::Duty { refusal: 0, duty },
-        Err(refusal) => raw::Duty { refusal, duty: 0 },
+        Ok(duty) => raw::DutyReply { refusal: 0, duty },
+        Err(refusal) => raw::DutyReply { refusal, duty: 0 },
+    }
+}
+
+#[test]
+fn duties_of_the_bench_rows_on_both_sides() {
+    for (current, duty) in [
+        (6_000, 100),
+        (6_059, 100),
+        (6_060, 101),
+        (32_000, 533),
+        (51_000, 850),
+        (52_749, 850),
+        (52_750, 851),
+        (80_000, 960),
+    ] {
+        assert_eq!(archive_duty(current).duty, duty, "archive: {current}");
+        assert_eq!(duty_for(current), Ok(duty), "model: {current}");
     }
 }
 
@@ -53,17 +70,17 @@ fn model_duty(current: u32) -> raw::Duty {
 fn every_duty_reads_as_in_the_model() {
     let mut tally = Tally::default();
     for duty in (0..=1_100).chain(EXTREMES) {
-        let said = archive_reading(duty);
+        let reply = archive_reading(duty);
         assert_eq!(
-            said,
+            reply,
             model_reading(duty),
             "archive, model: reading of {duty}"
         );
-        match said.refusal {
+        match reply.refusal {
             0 => tally.count("reading refusal", "0"),
             _ => tally.count("reading refusal", "9"),
         }
-        match said.kind {
+        match reply.kind {
             0 => tally.count("reading kind", "no charging"),
             1 => tally.count("reading kind", "digital only"),
             _ => tally.count("reading kind", "a current"),
@@ -82,23 +99,23 @@ fn every_duty_reads_as_in_the_model() {
 #[test]
 fn every_current_has_the_greatest_duty() {
     let mut tally = Tally::default();
-    let driven: Vec<(u32, raw::Reading)> = (100..=960)
+    let driven: Vec<(u32, raw::ReadingReply)> = (100..=960)
         .map(|duty| (duty, archive_reading(duty)))
         .collect();
     for current in (0..=80_100).chain(EXTREMES) {
-        let said = archive_duty(current);
+        let reply = archive_duty(current);
         assert_eq!(
-            said,
+            reply,
             model_duty(current),
             "archive, model: duty for {current}"
         );
         let fits = driven.iter().filter(|(_, read)| read.current <= current);
         let greatest = fits.map(|(duty, _)| *duty).max();
-        match said.refusal {
+        match reply.refusal {
             0 => tally.count("duty refusal", "0"),
             _ => tally.count("duty refusal", "10"),
         }
-        let found = (said.refusal == 0).then_some(said.duty);
+        let found = (reply.refusal == 0).then_some(reply.duty);
         assert_eq!(found, greatest, "found, greatest: duty for {current}");
     }
     println!("{}", tally.table());

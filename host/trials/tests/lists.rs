@@ -25,7 +25,8 @@ const AGES: [&str; 8] = [
     "pause, closes",
 ];
 
-const TOLD: [&str; 10] = ["U0", "A1", "B1", "B2", "C1", "C2", "D1", "D2", "E0", "F0"];
+/// The states that a list of calls can bring about.
+const REACHED_STATES: [&str; 10] = ["U0", "A1", "B1", "B2", "C1", "C2", "D1", "D2", "E0", "F0"];
 const LENGTHS: [&str; 8] = ["0", "1", "255", "256", "257", "1,023", "1,024", "1,025"];
 
 /// What must have occurred when all lists are done.
@@ -36,7 +37,7 @@ const WANTED: [(&str, &[&str]); 11] = [
     ("opened by", &REACHED),
     ("latched", &FAULTS),
     ("closing", &["in C", "in D"]),
-    ("state", &TOLD),
+    ("state", &REACHED_STATES),
     ("age", &AGES),
     (
         "closes but for",

@@ -96,6 +96,31 @@ fn levels_between_bands_keep_the_contactor_closed() {
     assert!(!after("sample 50 7500 -12000\nsample 60 1500 -12000\n").closed);
 }
 
+/// Without this sample the last sound one is that at 40, and the tick at 121 opens.
+#[test]
+fn a_high_level_of_1501_or_7499_is_sound_and_1500_or_7500_is_not() {
+    for (high, sound) in [(1_500, false), (1_501, true), (7_499, true), (7_500, false)] {
+        let sample = format!("sample 50 {high} -12000\n");
+        assert!(after(&sample).closed, "{high}");
+        let state = after(&format!("{sample}tick 121\n"));
+        assert_eq!(state.closed, sound, "{high}, then a tick");
+        let last_sound = if sound { 50 } else { 40 };
+        assert_eq!(state.sound, Some(last_sound), "{high}, then a tick");
+        let state = after(&format!("{sample}sample 60 {high} -12000\n"));
+        assert_eq!(state.closed, sound, "{high} twice");
+    }
+}
+
+#[test]
+fn samples_at_1501_alone_keep_the_contactor_closed() {
+    let mut calls = list("");
+    let times = (110..=1_000).step_by(70);
+    calls.extend(times.map(|time| Call::Sample(time, Window::Halves(1_501, -12_000))));
+    let state = run(calls);
+    assert_eq!((state.closed, state.settled), (true, Some(Band::C)));
+    assert_eq!(state.sound, Some(950));
+}
+
 #[test]
 fn a_diode_sample_from_before_an_opening_does_not_count() {
     let state = after("sample 50 6000 -10999\ntick 121\nsample 130 6000 -10999\n");
@@ -110,12 +135,26 @@ fn a_refused_call_does_not_move_the_clock() {
 }
 
 #[test]
-fn duties_just_above_51_a() {
-    for (limit, wave) in [(51_000, 850), (52_000, 850), (52_749, 850), (52_750, 851)] {
+fn duties_of_the_bench_rows() {
+    for (limit, wave) in [
+        (6_000, 100),
+        (6_059, 100),
+        (6_060, 101),
+        (32_000, 533),
+        (51_000, 850),
+        (52_000, 850),
+        (52_749, 850),
+        (52_750, 851),
+        (80_000, 960),
+    ] {
         let text = format!(
             "begin 0 80000 0 no\nlimit 0 {limit}\nsample 10 9000 9000\nsample 20 9000 9000\n"
         );
         let state = run(calls(&text).expect("a list of calls"));
-        assert_eq!((state.settled, state.wave), (Some(Band::B), wave));
+        assert_eq!(
+            (state.settled, state.wave),
+            (Some(Band::B), wave),
+            "{limit}"
+        );
     }
 }

@@ -4,7 +4,7 @@ use chuldariin_log::text::{calls, print};
 use chuldariin_log::{Call, Window};
 use chuldariin_model::Begin;
 use chuldariin_trials::dice::Dice;
-use chuldariin_trials::windows::odd;
+use chuldariin_trials::windows::irregular;
 
 #[test]
 fn calls_come_back_as_they_were() {
@@ -16,7 +16,7 @@ fn calls_come_back_as_they_were() {
         ventilation: true,
     })];
     for time in 0..200 {
-        list.push(Call::Sample(time, odd(&mut dice).into()));
+        list.push(Call::Sample(time, irregular(&mut dice).into()));
         list.push(Call::Sample(
             time,
             Window::Halves(dice.level(-15_000, 15_000), 0),

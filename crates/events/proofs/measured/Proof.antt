@@ -1,11 +1,11 @@
 -- What the calls ensure, put together, is the definition.
 use mathlib.Core.Path.{_∙_}
-use Rattle.rules.specs.Step1Event.{overrunAt, announced}
+use Rattle.rules.specs.Step1Event.{overrunAt}
 use Rattle.events.proofs.measured.Statement.{statement}
 use Rattle.events.proofs.measured.Tie as tie
 
 returns : tie.Need-returns
-unfolding overrunAt announced
+unfolding overrunAt
 returns c s closed wave overrun =
     c .judged-over .ensures ∙ rw (c .before .both .ensures, c .before .before .driven .ensures, closed, wave, overrun)
 

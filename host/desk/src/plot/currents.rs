@@ -1,8 +1,8 @@
 //! The announced current, the limit, and what was measured.
 
+use super::reduce::{reduce, steps, Point};
 use super::scale::{Panel, Scale};
 use super::svg::{Anchor, Svg};
-use super::thin::{steps, thin, Point};
 use super::track::{Run, Track};
 use super::{CURRENTS, CURRENTS_END, LEFT, RIGHT};
 
@@ -40,7 +40,7 @@ fn lines(svg: &mut Svg, track: &Track, scale: &Scale, panel: &Panel) {
         y: place(measured).1,
         joined: false,
     };
-    for dot in thin(track.measured.iter().map(dot)) {
+    for dot in reduce(track.measured.iter().map(dot)) {
         svg.circle(dot.x, dot.y, 2.2, "measured");
     }
 }

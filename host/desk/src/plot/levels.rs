@@ -1,8 +1,8 @@
 //! The high and the low level over the bands.
 
+use super::reduce::{reduce, Point};
 use super::scale::{Panel, Scale};
 use super::svg::{Anchor, Svg};
-use super::thin::{thin, Point};
 use super::track::{Levels, Track};
 use super::{LEFT, LEVELS, LEVELS_END, RIGHT};
 
@@ -68,8 +68,8 @@ fn lines(svg: &mut Svg, track: &Track, scale: &Scale) {
     };
     let low = |levels: &Levels| point(levels, levels.low);
     let high = |levels: &Levels| point(levels, levels.high);
-    svg.path(&thin(track.samples.iter().map(low)), "low");
-    svg.path(&thin(track.samples.iter().map(high)), "high");
+    svg.path(&reduce(track.samples.iter().map(low)), "low");
+    svg.path(&reduce(track.samples.iter().map(high)), "high");
     if track.samples.len() <= FEW {
         for sample in &track.samples {
             let (high, low) = (high(sample), low(sample));

@@ -35,7 +35,7 @@ pub fn draw(svg: &mut Svg, track: &Track, scale: &Scale) {
         let last = &mut drawn[mark.sign as usize];
         if x - *last >= 0.5 {
             *last = x;
-            svg.told_lines(x, parts, class(mark.sign), &mark.words);
+            svg.titled_lines(x, parts, class(mark.sign), &mark.words);
         }
         if mark.sign == Sign::Opened {
             labelled = label(svg, x, number, labelled);

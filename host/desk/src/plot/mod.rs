@@ -5,7 +5,7 @@
 //! | `track` | nothing: what is to be drawn of each call |
 //! | `svg` | the picture's elements |
 //! | `scale` | time and values to places; the time axis |
-//! | `thin` | fewer points, where several fall on one pixel |
+//! | `reduce` | fewer points, where several fall on one pixel |
 //! | `levels` | the high and the low level over the bands |
 //! | `currents` | the announced current, the limit, and what was measured |
 //! | `strips` | contactor, state, fault and refusals |
@@ -14,10 +14,10 @@
 mod currents;
 mod levels;
 mod marks;
+mod reduce;
 mod scale;
 mod strips;
 mod svg;
-mod thin;
 mod track;
 
 use crate::input::Log;

@@ -112,7 +112,7 @@ fn strip<T>(
             continue;
         }
         drawn = from + width;
-        svg.told_fill(from, top, width, HEIGHT, part.colour, &part.long);
+        svg.titled_fill(from, top, width, HEIGHT, part.colour, &part.long);
         if let Some(label) = part.label(width) {
             let x = from + width / 2.0;
             svg.text(x, top + 13.0, 11.0, Anchor::Middle, "", label);

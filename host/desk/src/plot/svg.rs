@@ -1,6 +1,6 @@
 //! The picture's elements.
 
-use super::thin::Point;
+use super::reduce::Point;
 use std::fmt::Write;
 
 /// Colours and widths of the lines and letters, by class.
@@ -69,11 +69,11 @@ impl Svg {
 
     /// A rectangle of a colour.
     pub fn fill(&mut self, x: f64, y: f64, width: f64, height: f64, colour: &str) {
-        self.told_fill(x, y, width, height, colour, "");
+        self.titled_fill(x, y, width, height, colour, "");
     }
 
     /// The same, that tells something where a pointer rests on it.
-    pub fn told_fill(
+    pub fn titled_fill(
         &mut self,
         x: f64,
         y: f64,
@@ -102,7 +102,7 @@ impl Svg {
     }
 
     /// Upright lines at a place, from and to these heights, that tell something where a pointer rests on one.
-    pub fn told_lines(&mut self, x: f64, parts: &[(f64, f64)], class: &str, words: &str) {
+    pub fn titled_lines(&mut self, x: f64, parts: &[(f64, f64)], class: &str, words: &str) {
         let mut path = String::new();
         for (top, bottom) in parts {
             let _ = write!(path, "M{x:.1} {top:.1}V{bottom:.1}");

@@ -186,8 +186,8 @@ impl Track {
     }
 
     fn mark(&mut self, at: u64, turn: &Turn) {
-        let opened = turn.told.opened || turn.begun_while_closed();
-        let sign = match (opened, turn.told.closing, turn.begins()) {
+        let opened = turn.outcome.opened || turn.begun_while_closed();
+        let sign = match (opened, turn.outcome.closing, turn.begins()) {
             (true, _, _) => Sign::Opened,
             (_, true, _) => Sign::Closed,
             (_, _, true) => Sign::Begun,

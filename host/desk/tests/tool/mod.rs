@@ -36,15 +36,15 @@ pub fn text(bytes: &[u8]) -> String {
 }
 
 /// What it answers to this log; all must be well.
-pub fn told(words: &[&str], log: &str) -> String {
+pub fn answer(words: &[&str], log: &str) -> String {
     let output = run(words, log.as_bytes());
     assert_eq!(output.status.code(), Some(0), "{}", text(&output.stderr));
     text(&output.stdout)
 }
 
 /// The line that starts with these words.
-pub fn line<'a>(told: &'a str, start: &str) -> &'a str {
-    let mut lines = told.lines();
+pub fn line<'a>(answer: &'a str, start: &str) -> &'a str {
+    let mut lines = answer.lines();
     let found = lines.find(|line| line.trim_start().starts_with(start));
-    found.unwrap_or_else(|| panic!("{start}\n{told}"))
+    found.unwrap_or_else(|| panic!("{start}\n{answer}"))
 }

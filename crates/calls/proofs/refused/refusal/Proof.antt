@@ -1,12 +1,11 @@
 -- What the calls ensure, put together, is the definition.
 use mathlib.Core.Path.{_∙_}
 use Rattle.rules.specs.Lent.{lentRefusal}
-use Rattle.rules.specs.Refusals.{timeRefusal}
 use Rattle.calls.proofs.refused.refusal.Statement.{statement}
 use Rattle.calls.proofs.refused.refusal.Tie as tie
 
 returns : tie.Need-returns
-unfolding lentRefusal timeRefusal
+unfolding lentRefusal
 returns c =
     c .or-else2 .ensures ∙ rw (c .before .or-else .ensures, c .before .before .argument-refusal .ensures, c .before .before .before .number-if .ensures, c .before .before .before .before .altered .ensures, c .before .before .before .before .before .time-refusal .ensures)
 

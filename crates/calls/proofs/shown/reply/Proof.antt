@@ -1,10 +1,8 @@
 -- What the calls ensure, field by field, is the definition.
-use Rattle.rules.specs.Reply.{letter, digit}
 use Rattle.calls.proofs.shown.reply.Statement.{statement}
 use Rattle.calls.proofs.shown.reply.Tie as tie
 
 returns : tie.Need-returns
-unfolding letter digit
 returns c =
     rw (c .shown .ensures, c .before .digit .ensures, c .before .before .letter .ensures, c .before .before .before .any .ensures)
 

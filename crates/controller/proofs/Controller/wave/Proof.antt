@@ -1,10 +1,10 @@
 -- What the calls ensure, field by field, is the definition.
-use Rattle.rules.specs.Step3Wave.{waveFor, heldHigh, available, unventilatedD}
+use Rattle.rules.specs.Step3Wave.{waveFor, available}
 use Rattle.controller.proofs.Controller.wave.Statement.{statement}
 use Rattle.controller.proofs.Controller.wave.Tie as tie
 
 returns : tie.Need-returns
-unfolding waveFor heldHigh available unventilatedD
+unfolding waveFor available
 returns c =
     rw (c .stop-under .ensures, c .before .overrun-under .ensures, c .before .before .wave-for .ensures, c .before .before .before .lesser .ensures, c .before .before .before .before .any .ensures)
 

@@ -10,7 +10,7 @@ pub struct Point {
 }
 
 /// Of each column its first and last point, and its least and greatest value between them.
-pub fn thin(points: impl Iterator<Item = Point>) -> Vec<Point> {
+pub fn reduce(points: impl Iterator<Item = Point>) -> Vec<Point> {
     let mut kept: Vec<Point> = Vec::new();
     let mut column: Vec<Point> = Vec::new();
     for point in points {
@@ -65,5 +65,5 @@ pub fn steps(points: impl Iterator<Item = (f64, f64)>, end: f64) -> Vec<Point> {
             ..last
         });
     }
-    thin(corners.into_iter())
+    reduce(corners.into_iter())
 }

@@ -1,9 +1,9 @@
 //! Window to levels, by sorting: the model's way is obvious, and too slow for a million windows.
 
-use chuldariin_model::{Weighed, ENOUGH, LONGEST, NEAR, READING_END, SHORTEST};
+use chuldariin_model::{Evaluated, ENOUGH, LONGEST, NEAR, READING_END, SHORTEST};
 
 /// High and low level, or refusal 4, 5 or 6.
-pub fn weigh(readings: &[i32]) -> Weighed {
+pub fn evaluate(readings: &[i32]) -> Evaluated {
     if !(SHORTEST..=LONGEST).contains(&readings.len()) {
         return Err(4);
     }

@@ -1,17 +1,17 @@
 //! The fast way from window to levels, held against the model's.
 
-use chuldariin_desk::weigh::weigh;
+use chuldariin_desk::evaluate::evaluate;
 use chuldariin_model::levels;
 use chuldariin_trials::dice::Dice;
-use chuldariin_trials::windows::{barely, clusters, noisy, odd, peaks, scattered};
+use chuldariin_trials::windows::{barely, clusters, irregular, noisy, peaks, scattered};
 
 #[test]
 fn the_same_levels_and_refusals_as_the_model() {
     let mut dice = Dice::new(5);
     let mut refused = [0; 7];
     for _ in 0..4_000 {
-        let readings = odd(&mut dice);
-        assert_eq!(weigh(&readings), levels(&readings), "{readings:?}");
+        let readings = irregular(&mut dice);
+        assert_eq!(evaluate(&readings), levels(&readings), "{readings:?}");
         refused[levels(&readings).err().unwrap_or(0) as usize] += 1;
     }
     assert!(refused[0] > 1_000 && refused[6] > 100, "{refused:?}");
@@ -19,7 +19,7 @@ fn the_same_levels_and_refusals_as_the_model() {
         for make in [peaks, clusters, noisy, scattered, barely] {
             let mut readings = make(&mut dice, length.max(256));
             readings.truncate(length);
-            assert_eq!(weigh(&readings), levels(&readings), "length {length}");
+            assert_eq!(evaluate(&readings), levels(&readings), "length {length}");
         }
     }
 }
@@ -30,7 +30,11 @@ fn readings_out_of_range() {
         for place in [0, 100, 255] {
             let mut readings = vec![6_000; 256];
             readings[place] = reading;
-            assert_eq!(weigh(&readings), levels(&readings), "{reading} at {place}");
+            assert_eq!(
+                evaluate(&readings),
+                levels(&readings),
+                "{reading} at {place}"
+            );
         }
     }
 }

@@ -1,27 +1,27 @@
-//! Scenes of windows, faults and clocks.
+//! Scenes of irregular windows, faults, refused calls and clocks.
 
 use crate::author::Author;
 use crate::edges::LARGEST;
 use crate::scenes::close;
 use crate::trial::Played;
-use crate::windows::odd;
+use crate::windows::irregular;
 use chuldariin_log::Call;
 use chuldariin_model::Band;
 
-/// Odd windows in any state.
-pub fn odd_windows(author: &mut Author) -> Played {
+/// Irregular windows in any state.
+pub fn irregular_windows(author: &mut Author) -> Played {
     for _ in 0..author.dice.between(4, 16) {
-        let (time, readings) = (author.soon(), odd(&mut author.dice));
+        let (time, readings) = (author.soon(), irregular(&mut author.dice));
         author.say(Call::Sample(time, readings.into()))?;
     }
     Ok(())
 }
 
-/// Odd windows between good ones, with the contactor closed.
-pub fn odd_among_good(author: &mut Author) -> Played {
+/// Irregular windows between good ones, with the contactor closed.
+pub fn irregular_among_good(author: &mut Author) -> Played {
     close(author)?;
     for _ in 0..author.dice.between(2, 8) {
-        let (time, readings) = (author.soon(), odd(&mut author.dice));
+        let (time, readings) = (author.soon(), irregular(&mut author.dice));
         author.say(Call::Sample(time, readings.into()))?;
         author.van(Band::C)?;
     }
