@@ -48,7 +48,6 @@
 #ifndef CHULDARIIN_H
 #define CHULDARIIN_H
 
-/* C11 or C++11, or later. */
 #include <stdbool.h>
 #include <stddef.h>
 #include <stdint.h>

@@ -2,8 +2,8 @@
 use pilot::verdicts::Verdict;
 use units::conditions;
 ghost use mathlib.Core.Path.{_≡_};
-ghost use mathlib.Core.Bool.{true, cond};
-ghost use Rattle.rules.specs.State.{noVerdict, forgotten};
+ghost use mathlib.Core.Bool.{cond};
+ghost use Rattle.rules.specs.State.{noVerdict, forgotten, keptSample};
 ghost use Rattle.rules.specs.Step3Wave.{isLetter};
 ghost use Rattle.rules.specs.Pairs.{paired, sameBand, inOneBand, bothProven, bothDiodeBad, bothUnsound};
 ghost use Rattle.parts.specs.Views.{asPrevious, asPair};
@@ -47,7 +47,7 @@ pub fn forgotten() -> Previous
 
 // A sample that becomes the previous one.
 pub fn kept_sample(verdict: Verdict) -> Previous
-    ensures { λ r. ⌜ asPrevious r ≡ record { kept = true; verdict = verdict } ⌝ }
+    ensures { λ r. ⌜ asPrevious r ≡ keptSample verdict ⌝ }
 {
     Previous {
         kept: true,

@@ -5,7 +5,7 @@ use mathlib.Core.Logic.{_↔_}
 use Prim.Native.Nat.{ℕ, _<_}
 use lib.Dec.{eqb, leb}
 use borrow.Author.Tests.{eqb-false, ne-eqb, leb-false, lt-leb, not-false}
-use Rattle.units.specs.Wave.{driven}
+use Rattle.units.specs.Wave.{driven, steadyLow, steadyHigh}
 use Rattle.units.proofs.FromTo.{outside-exactly}
 use Rattle.units.proofs.LevelOrder.{and-parts}
 use Rattle.rules.specs.Begin.{ratedAllowed, pauseAllowed}
@@ -13,7 +13,6 @@ use Rattle.rules.specs.Lent.{Lent, mostClosings, waveAllowed, storedAllo
 use Rattle.rules.specs.Refusals.{limitAllowed}
 use Rattle.rules.specs.RefusalsAre.{WaveOut, StoredAbove, Altered, wave-out, limit-out, rated-out, pause-out, sound-above, opening-above, overrun-above, stop-above, closings-out}
 use Rattle.rules.specs.State.{State, Moment}
-use Rattle.rules.specs.Step3Wave.{steadyLow, steadyHigh}
 use Rattle.rules.proofs.Booleans.{clash}
 use Rattle.rules.proofs.Ranges.{InRange, range-parts}
 

@@ -6,7 +6,7 @@ use native.Mathlib.Omega.{arith}
 use lib.Dec.{eqb, ltb}
 use borrow.Author.Tests.{eqb-true, ltb-true, not-true}
 use Rattle.units.specs.Range.{fromTo}
-use Rattle.units.specs.Wave.{driven}
+use Rattle.units.specs.Wave.{driven, steadyHigh}
 use Rattle.units.proofs.LevelOrder.{and-parts}
 use Rattle.rules.specs.Accepted.{pairAt, causeAt, opensAt, afterWave, accept}
 use Rattle.rules.specs.Calls.{EvaluatedCall}
@@ -14,7 +14,7 @@ use Rattle.rules.specs.Pairs.{paired, bothUnsound}
 use Rattle.rules.specs.State.{State, Moment, anyFault, empty, setTo, startedBy}
 use Rattle.rules.specs.Step1Event.{soundBy}
 use Rattle.rules.specs.Step2Latches.{ranFor}
-use Rattle.rules.specs.Step3Wave.{steadyHigh, unventilatedD, stopUnder}
+use Rattle.rules.specs.Step3Wave.{unventilatedD, stopUnder}
 use Rattle.rules.specs.Step4Opening.{cause1, cause2, cause3, cause4, cause5, cause, opens}
 use Rattle.rules.proofs.Booleans.{clash}
 use Rattle.rules.proofs.Offering.{driven-offers}

@@ -6,7 +6,7 @@ use Rattle.pilot.specs.Bands.{noBand}
 use Rattle.rules.specs.Begin.{largestTime}
 use Rattle.rules.specs.Claim.{Trace}
 use Rattle.pilot.specs.declared.verdicts.Verdict.{Verdict}
-use Rattle.rules.specs.State.{Moment, Previous, setTo, forgotten}
+use Rattle.rules.specs.State.{Moment, Previous, setTo, forgotten, keptSample}
 use Rattle.rules.specs.Step5Closing.{closingsBy}
 use Rattle.rules.proofs.Booleans.{clash}
 
@@ -20,7 +20,7 @@ pub record Memory : Type 0 where
 
 -- the previous sample after an accepted call: none, the call's own, or the one before it
 abbrev pub previousBy : Bool → Bool → Verdict → Previous → Previous
-previousBy forgets sampled verdict old = cond forgets forgotten (cond sampled (record { kept = true; verdict = verdict }) old)
+previousBy forgets sampled verdict old = cond forgets forgotten (cond sampled (keptSample verdict) old)
 
 module _ (t : Trace) (memory : Memory) where
   -- what a call shows that meets every closing condition

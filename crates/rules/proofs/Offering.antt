@@ -7,13 +7,13 @@ use native.Mathlib.Omega.{arith}
 use lib.Dec.{eqb, leb}
 use borrow.Author.Tests.{leb-true, eqb-true, eqb-false}
 use Rattle.units.specs.Range.{fromTo}
-use Rattle.units.specs.Wave.{driven}
+use Rattle.units.specs.Wave.{driven, steadyLow, steadyHigh}
 use Rattle.duty.specs.DutyFor.{IsGreatest}
 use Rattle.pilot.specs.Bands.{bandA, bandB, bandC, bandD, bandE, ready}
 use Rattle.rules.specs.Accepted.{afterLatch, accept}
 use Rattle.rules.specs.Calls.{fault, EvaluatedCall}
 use Rattle.rules.specs.State.{State, anyFault}
-use Rattle.rules.specs.Step3Wave.{steadyLow, steadyHigh, isLetter, isUAE, available}
+use Rattle.rules.specs.Step3Wave.{isLetter, isUAE, available}
 use Rattle.rules.proofs.Booleans.{clash}
 use Rattle.rules.proofs.Waves.{Offers, WaveIs, low, high, square, wave-is, greatest-driven}
 

@@ -7,7 +7,7 @@ use native.Mathlib.Omega.{arith}
 use lib.Dec.{eqb, leb}
 use borrow.Author.Tests.{leb-true, le-leb}
 use Rattle.units.specs.Range.{fromTo}
-use Rattle.units.specs.Wave.{driven}
+use Rattle.units.specs.Wave.{driven, steadyHigh}
 use Rattle.units.proofs.LevelOrder.{and-parts}
 use Rattle.window.specs.Evaluation.{Evaluation}
 use Rattle.rules.specs.Accepted.{pairAt, opensAt, afterLatch, afterWave, accept}
@@ -18,7 +18,7 @@ use Rattle.rules.specs.Refusals.{limitAllowed, argumentRefusal}
 use Rattle.rules.specs.Replay.{isAccepted}
 use Rattle.rules.specs.State.{State, Moment, empty, setTo, startedBy}
 use Rattle.rules.specs.Step1Event.{isOver, announced, soundBy, limitBy, overrunAt, overrunBy}
-use Rattle.rules.specs.Step3Wave.{steadyHigh, waveFor, overrunUnder, stopUnder}
+use Rattle.rules.specs.Step3Wave.{waveFor, overrunUnder, stopUnder}
 use Rattle.rules.proofs.Acceptance.{arguments-right, on-time}
 use Rattle.rules.proofs.Booleans.{not-refused}
 use Rattle.rules.proofs.Waves.{wave-allowed}

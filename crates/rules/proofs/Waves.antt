@@ -6,13 +6,13 @@ use Prim.Native.Nat.{ℕ, _≤_}
 use lib.Dec.{eqb, ltb}
 use borrow.Author.Tests.{ltb-false, le-ltb}
 use Rattle.units.specs.Range.{fromTo}
-use Rattle.units.specs.Wave.{driven}
+use Rattle.units.specs.Wave.{driven, steadyLow, steadyHigh}
 use Rattle.units.proofs.FromTo.{inside}
 use Rattle.duty.specs.DutyFor.{dutyFor, IsGreatest}
 use Rattle.duty.proofs.Laws.{greatest}
 use Rattle.rules.specs.Lent.{waveAllowed}
 use Rattle.rules.specs.State.{State, anyFault}
-use Rattle.rules.specs.Step3Wave.{steadyLow, steadyHigh, isUAE, unventilatedD, available, heldHigh, sent, waveFor}
+use Rattle.rules.specs.Step3Wave.{isUAE, unventilatedD, available, heldHigh, sent, waveFor}
 use Rattle.rules.proofs.Booleans.{clash}
 
 -- no duty is held back

@@ -1,5 +1,5 @@
 -- An accepted call: steps 1 to 5 in their order, and what is kept at its end (document 01, demand 3).
-use mathlib.Core.Bool.{Bool, true, _&&_, _||_, not, cond}
+use mathlib.Core.Bool.{Bool, _&&_, _||_, not, cond}
 use Prim.Native.Nat.{ℕ}
 use Rattle.rules.specs.Calls.{EvaluatedCall, isFault}
 use Rattle.rules.specs.Pairs.{Pair, pairOf}
@@ -8,7 +8,7 @@ use Rattle.rules.specs.Step2Latches.{unsettles, stepLatch}
 use Rattle.rules.specs.Step3Wave.{stepWave}
 use Rattle.rules.specs.Step4Opening.{cause, opens, stepOpening}
 use Rattle.rules.specs.Step5Closing.{closes, stepClosing}
-use Rattle.rules.specs.State.{State}
+use Rattle.rules.specs.State.{State, keptSample}
 
 -- the end of a call: its time stays, and so does its sample, unless the call forgot
 abbrev pub stepEnd : Bool → ℕ → Pair → State → State
@@ -25,7 +25,7 @@ stepEnd forgot time pair s =
       opening = s .opening;
       overrun = s .overrun;
       stop = s .stop;
-      previous = cond (pair .sampled && not forgot) (record { kept = true; verdict = pair .this }) (s .previous);
+      previous = cond (pair .sampled && not forgot) (keptSample (pair .this)) (s .previous);
     }
 
 module _ (s : State) (call : EvaluatedCall) where

@@ -3,6 +3,7 @@ use mathlib.Core.Bool.{Bool, false, _&&_, _||_, cond}
 use Prim.Native.Nat.{ℕ}
 use lib.Dec.{eqb, ltb}
 use Rattle.units.specs.Range.{fromTo}
+use Rattle.units.specs.Wave.{steadyHigh}
 use Rattle.rules.specs.State.{State, Settings, unsettled, noFaults, empty, forgotten}
 
 -- begin's values: time, rated current, pause, ventilation
@@ -52,7 +53,7 @@ fresh begin =
     record {
       settings = inForce (record { rated = begin .rated; pause = begin .pause; ventilation = begin .ventilation });
       limit = 0;
-      wave = 1000;
+      wave = steadyHigh;
       closed = false;
       settled = unsettled;
       faults = noFaults;

@@ -5,7 +5,7 @@ use mathlib.Core.List.{List}
 use mathlib.Core.Logic.{_↔_, _⊎_}
 use Prim.Native.Nat.{ℕ, suc, _+_, _≤_, _<_}
 use lib.ListN.{length}
-use Rattle.units.specs.Wave.{driven}
+use Rattle.units.specs.Wave.{driven, steadyLow, steadyHigh}
 use Rattle.duty.specs.DutyFor.{IsGreatest}
 use Rattle.pilot.specs.Bands.{bandB, ready}
 use Rattle.rules.specs.Begin.{Begin, pauseFor, fresh}
@@ -15,7 +15,7 @@ use Rattle.rules.specs.Every20.{ClosedIsSound}
 use Rattle.rules.specs.Lent.{altered}
 use Rattle.rules.specs.Refusals.{refusal}
 use Rattle.rules.specs.State.{State, anyFault}
-use Rattle.rules.specs.Step3Wave.{steadyLow, steadyHigh, available}
+use Rattle.rules.specs.Step3Wave.{available}
 use Rattle.rules.specs.Traces.{before, callAt, lentAt, replyBefore, answered}
 
 -- what is true of every state that a list leads to

@@ -2,12 +2,11 @@
 use mathlib.Core.Bool.{Bool, _&&_, _||_, not, cond}
 use Prim.Native.Nat.{ℕ}
 use lib.Dec.{eqb, leb}
-use Rattle.units.specs.Wave.{driven}
+use Rattle.units.specs.Wave.{driven, steadyLow, steadyHigh}
 use Rattle.rules.specs.Begin.{ratedAllowed, pauseAllowed}
 use Rattle.rules.specs.Calls.{EvaluatedCall}
 use Rattle.rules.specs.Refusals.{orElse, timeRefusal, limitAllowed, argumentRefusal}
 use Rattle.rules.specs.State.{State, Moment}
-use Rattle.rules.specs.Step3Wave.{steadyLow, steadyHigh}
 
 -- the controller that a call is lent
 pub record Lent : Type 0 where

@@ -6,13 +6,13 @@ use mathlib.Core.List.{List}
 use mathlib.Core.Logic.{_↔_, _⊎_}
 use Prim.Native.Nat.{ℕ, _≤_, _<_}
 use lib.IntN.{ℤ}
+use Rattle.units.specs.Wave.{steadyLow, steadyHigh}
 use Rattle.units.specs.Range.{Outside}
 use Rattle.window.specs.Laws.{RefusedFor}
 use Rattle.rules.specs.Begin.{Begin, largestTime}
 use Rattle.rules.specs.Calls.{Event, Call, sample, limit, measure, fault, clear, tick}
 use Rattle.rules.specs.Lent.{Lent, mostClosings}
 use Rattle.rules.specs.State.{Moment}
-use Rattle.rules.specs.Step3Wave.{steadyLow, steadyHigh}
 
 -- a wave out of its range: neither steady nor driven
 abbrev pub WaveOut : ℕ → Type 0

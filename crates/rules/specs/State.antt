@@ -42,6 +42,10 @@ noVerdict = record { band = 0; sound = false; proven = false; diodebad = false }
 abbrev pub forgotten : Previous
 forgotten = record { kept = false; verdict = noVerdict }
 
+-- a sample becomes the previous one
+abbrev pub keptSample : Verdict → Previous
+keptSample verdict = record { kept = true; verdict = verdict }
+
 -- U, as it is kept: nothing is settled
 abbrev pub unsettled : ℕ
 unsettled = 0

@@ -3,18 +3,10 @@ use mathlib.Core.Bool.{Bool, _&&_, _||_, not, cond}
 use Prim.Native.Nat.{ℕ, min}
 use lib.Dec.{eqb, ltb}
 use Rattle.units.specs.Range.{fromTo}
-use Rattle.units.specs.Wave.{driven}
+use Rattle.units.specs.Wave.{driven, steadyLow, steadyHigh}
 use Rattle.pilot.specs.Bands.{bandA, bandD, bandE}
 use Rattle.duty.specs.DutyFor.{Sends, duty, refusal, dutyFor}
 use Rattle.rules.specs.State.{State, Moment, anyFault, empty, startedBy}
-
--- steady -12 V (state F)
-abbrev pub steadyLow : ℕ
-steadyLow = 0
-
--- steady +12 V
-abbrev pub steadyHigh : ℕ
-steadyHigh = 1000
 
 -- a settled state that is one of A to E
 unfoldable pub isLetter : ℕ → Bool

@@ -9,9 +9,10 @@ use units::conditions;
 ghost use mathlib.Core.Path.{_≡_};
 ghost use mathlib.Core.Bool.{cond};
 ghost use lib.Dec.{eqb};
+ghost use Rattle.units.specs.Wave.{steadyLow, steadyHigh};
 ghost use Rattle.duty.specs.Answers.{asSends};
 ghost use Rattle.duty.specs.DutyFor.{dutyFor};
-ghost use Rattle.rules.specs.Step3Wave.{steadyLow, steadyHigh, isUAE, unventilatedD, heldHigh, sent, waveOf, overrunUnder, stopUnder};
+ghost use Rattle.rules.specs.Step3Wave.{isUAE, unventilatedD, heldHigh, sent, waveOf, overrunUnder, stopUnder};
 ghost use Rattle.parts.specs.Views.{asMoment};
 
 // Settled U, A or E.

@@ -2,15 +2,12 @@
 
 use crate::archive::Archive;
 use crate::drive::{charging, idle, Pair, DRIVEN_TO};
-use crate::table::{ns, spread, verdict, Table};
+use crate::table::{ns, spread, Table};
 use crate::timing::{contest, median, ratio, Contestant, Effort, Times};
 use chuldariin::raw::Reply;
 use chuldariin_model::Event;
 use chuldariin_trials::dice::Dice;
 use std::hint::black_box;
-
-/// Target of tick and limit: archive against the model.
-const TARGET: f64 = 1.5;
 
 /// One kind of call on both sides. It is made with the values in turn.
 #[derive(Clone, Copy)]
@@ -19,7 +16,6 @@ struct Kind {
     archive: fn(&mut Archive, u32) -> Reply,
     event: fn(u32) -> Event<'static>,
     values: fn() -> Vec<u32>,
-    target: Option<f64>,
 }
 
 /// Calls that leave a controller as it was, but for what they store.
@@ -29,21 +25,18 @@ const IN_PLACE: [Kind; 3] = [
         archive: |archive, _| archive.tick(DRIVEN_TO),
         event: |_| Event::Tick,
         values: || vec![0],
-        target: Some(TARGET),
     },
     Kind {
         name: "limit",
         archive: |archive, current| archive.limit(DRIVEN_TO, current),
         event: Event::Limit,
         values: limits,
-        target: Some(TARGET),
     },
     Kind {
         name: "measure",
         archive: |archive, current| archive.measure(DRIVEN_TO, current),
         event: Event::Measure,
         values: measures,
-        target: None,
     },
 ];
 
@@ -54,14 +47,12 @@ const ON_A_COPY: [Kind; 2] = [
         archive: |archive, kind| archive.fault(DRIVEN_TO, kind),
         event: Event::Fault,
         values: || vec![3, 4, 5],
-        target: None,
     },
     Kind {
         name: "clear",
         archive: |archive, _| archive.clear(DRIVEN_TO),
         event: |_| Event::Clear,
         values: || vec![0],
-        target: None,
     },
 ];
 
@@ -116,25 +107,17 @@ fn print(kinds: &[Kind], on_a_copy: bool, effort: Effort) {
         "archive ns",
         "model ns",
         "archive / model",
-        "target",
-        "",
     ]);
     for &kind in kinds {
         for (state, lent) in [("charging", charging()), ("idle", idle())] {
             let times = time(kind, &lent, on_a_copy, effort);
             let ratio = ratio(&times[0], &times[1]);
-            let (target, met) = match kind.target {
-                Some(target) => (format!("<= {target:.1}"), verdict(&ratio, target)),
-                None => ("-".to_string(), String::new()),
-            };
             table.row(vec![
                 kind.name.to_string(),
                 state.to_string(),
                 ns(median(&times[0])),
                 ns(median(&times[1])),
                 spread(&ratio),
-                target,
-                met,
             ]);
         }
     }
@@ -144,7 +127,7 @@ fn print(kinds: &[Kind], on_a_copy: bool, effort: Effort) {
 const HEAD: &str = "\
 2. Calls without a window, median ns of a call
    charging: closed, wave driven, so that a measure is judged; idle: open, no van.
-   measure is apart and has no target: it reads a table that is rebuilt at each call.";
+   measure is apart: it reads a table that is rebuilt at each call.";
 
 pub fn run(effort: Effort) {
     println!("{HEAD}\n");

@@ -124,7 +124,7 @@ pub fn run(effort: Effort) {
     println!(
         "   begin, limit, a sample of 256 readings every 20 ms, two measures and a tick between,"
     );
-    println!("   a stop, the opening. The model counts every supporter. No target.\n");
+    println!("   a stop, the opening. The model counts every supporter.\n");
     let mut table = Table::new(&[
         "side",
         "us per cycle",

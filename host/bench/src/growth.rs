@@ -39,7 +39,7 @@ fn print(
 
 pub fn run(effort: Effort) {
     let (order, _) = worst_order(effort);
-    println!("4. Growth of a whole sample call with the window (no target)\n");
+    println!("4. Growth of a whole sample call with the window\n");
     println!("Clean window");
     print("reading", |n| n, |n| readings::charging(20, n), effort);
     println!("Worst window ({})", order.name());

@@ -4,14 +4,10 @@ use crate::archive::place;
 use crate::check::all_agree_on;
 use crate::drive::{charging, DRIVEN_TO};
 use crate::readings::{self, Order};
-use crate::table::{commas, ns, spread, verdict, Table};
+use crate::table::{commas, ns, spread, Table};
 use crate::timing::{contest, less, median, ranking, ratio, Contestant, Effort, Times};
 use crate::window::{copies, sorting, without_skip, Search};
 use std::hint::black_box;
-
-/// Targets: archive against the same algorithm.
-pub const CLEAN_TARGET: f64 = 1.0;
-pub const WORST_TARGET: f64 = 1.1;
 
 /// The same algorithm at its fastest and at its slowest place in memory.
 pub struct Rust {
@@ -22,7 +18,6 @@ pub struct Rust {
 /// A window to be timed.
 struct Case {
     name: &'static str,
-    target: f64,
     window: Vec<i32>,
 }
 
@@ -156,18 +151,14 @@ fn cases(worst: Order) -> Vec<Case> {
     let mut cases = Vec::new();
     for length in [256, 1_024] {
         let windows = [
-            ("exact", CLEAN_TARGET, readings::charging(0, length)),
-            ("clean", CLEAN_TARGET, readings::charging(20, length)),
-            ("noisy", WORST_TARGET, readings::charging(150, length)),
-            ("wide", WORST_TARGET, readings::wide(length)),
-            ("few", WORST_TARGET, readings::few(length)),
-            ("worst", WORST_TARGET, readings::unsupported(worst, length)),
+            ("exact", readings::charging(0, length)),
+            ("clean", readings::charging(20, length)),
+            ("noisy", readings::charging(150, length)),
+            ("wide", readings::wide(length)),
+            ("few", readings::few(length)),
+            ("worst", readings::unsupported(worst, length)),
         ];
-        cases.extend(windows.map(|(name, target, window)| Case {
-            name,
-            target,
-            window,
-        }));
+        cases.extend(windows.map(|(name, window)| Case { name, window }));
     }
     cases
 }
@@ -246,13 +237,9 @@ fn print_ratios(timed: &[(Case, Timed)]) {
     println!("Archive against the same algorithm");
     let mut table = Table::new(&[
         "window",
-        "target",
         "sample / (rust + tick)",
-        "",
         "search / rust",
-        "",
         "sample / rust",
-        "",
     ]);
     for (case, times) in timed {
         let ratios = [
@@ -260,18 +247,15 @@ fn print_ratios(timed: &[(Case, Timed)]) {
             ratio(&times.search, &times.rust.fastest),
             ratio(&times.sample, &times.rust.fastest),
         ];
-        let mut row = vec![name(case), format!("<= {:.1}", case.target)];
-        for ratio in ratios {
-            row.push(spread(&ratio));
-            row.push(verdict(&ratio, case.target));
-        }
+        let mut row = vec![name(case)];
+        row.extend(ratios.map(|ratio| spread(&ratio)));
         table.row(row);
     }
     table.print();
 }
 
 fn print_others(timed: &[(Case, Timed)]) {
-    println!("Archive's search against the others (no target)");
+    println!("Archive's search against the others");
     let mut table = Table::new(&[
         "window",
         "/ slow place",

@@ -68,18 +68,3 @@ pub fn spread(ratio: &Ratio) -> String {
         ratio.middle, ratio.lower, ratio.upper
     )
 }
-
-/// Whether a target was met, and whether it lies within the quartiles.
-pub fn verdict(ratio: &Ratio, target: f64) -> String {
-    let met = if ratio.middle <= target {
-        "met"
-    } else {
-        "missed"
-    };
-    let near = ratio.lower <= target && target <= ratio.upper;
-    if near {
-        format!("{met}, near")
-    } else {
-        met.to_string()
-    }
-}
