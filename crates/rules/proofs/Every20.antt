@@ -104,11 +104,11 @@ module _ (begin : Begin) (calls : List Call) where
     after-last i n moment known past due closed =
         let here = list-reaches begin (take n calls) in
         let is : before begin calls n .closed ≡ true = sym (told-is n (known .within)) ∙ closed in
-        let sample = last-sound n (known .within) (here .closed-sampled is) in
+        let sample = last-sound n (known .within) (here .closed-has-sound is) in
         let recent = here .closed-sound is in
         let last = last-is i n known in
         let stored = sample .1 .stored in
-        let before-last = sound-past accepted n (here .closed-sampled is) in
+        let before-last = sound-past accepted n (here .closed-has-sound is) in
         record {
           sample = sample .0;
           before = sample .1 .earlier;

@@ -3,8 +3,8 @@ use mathlib.Core.Path.{_≡_, refl, sym, _∙_, ap}
 use mathlib.Core.Bool.{Bool, true, false, _&&_, _||_, not, cond}
 use Prim.Native.Nat.{ℕ, _+_, _≤_}
 use native.Mathlib.Omega.{arith}
-use lib.Dec.{eqb, ltb}
-use borrow.Author.Tests.{ltb-false, eqb-true}
+use lib.Dec.{eqb}
+use borrow.Author.Tests.{eqb-true}
 use Rattle.units.specs.Range.{fromTo}
 use Rattle.units.proofs.LevelOrder.{and-parts}
 use Rattle.pilot.specs.Bands.{bandC, bandD, noBand, ready}
@@ -20,6 +20,7 @@ use Rattle.rules.specs.Step4Opening.{cause1, cause2, cause3, cause4, cau
 use Rattle.rules.proofs.Booleans.{clash}
 use Rattle.rules.proofs.Faulted.{unsettled-fault}
 use Rattle.rules.proofs.Lawful.{previousBy}
+use Rattle.rules.proofs.Moments.{not-longer-ago}
 use Rattle.rules.proofs.OneCall.{closed-next, previous-is, ProvenPair, in-band, closes-exactly, same-band, some-band}
 use Rattle.rules.proofs.Samples.{fits, verdict-fits, verdict-sound, verdict-ready}
 use Rattle.rules.proofs.Offering.{driven-offers}
@@ -27,7 +28,7 @@ use Rattle.rules.proofs.Offering.{driven-offers}
 -- what an accepted call leaves closed
 pub record Closed (s : State) : Type 0 where
   pub no-fault : anyFault (s .faults) ≡ false
-  pub evaluatedCall : s .sound .set ≡ true
+  pub has-sound : s .sound .set ≡ true
   pub recent : s .last ≤ s .sound .time + 80
   pub ready-settled : ready (s .settled) (s .settings .ventilation) ≡ true
 
@@ -45,7 +46,7 @@ module _ (s : State) (call : EvaluatedCall) where
       rw (all .pair .sampled, verdict-sound s (call .event) (all .pair .second-proven)) in
       record {
         no-fault = offer .0;
-        evaluatedCall = ap (λ m. m .set) sound;
+        has-sound = ap (λ m. m .set) sound;
         recent = rw sound (omega arith);
         ready-settled = settled (unsettlesAt s call) refl (all .pair) (offer .1 .state);
       }
@@ -83,12 +84,7 @@ module _ (s : State) (call : EvaluatedCall) where
   sound-recent : cause2 (call .time) (afterWave s call) ≡ false
       → (accept s call .sound .set ≡ true) × (call .time ≤ accept s call .sound .time + 80)
   unfolding cause2
-  sound-recent e = go (accept s call .sound .set) refl e
-    where
-      go : (b : Bool) → accept s call .sound .set ≡ b → cond b (ltb (accept s call .sound .time + 80) (call .time)) true ≡ false
-          → (accept s call .sound .set ≡ true) × (call .time ≤ accept s call .sound .time + 80)
-      go true p f = (p, ltb-false (accept s call .sound .time + 80) (call .time) f)
-      go false p f = clash refl f
+  sound-recent e = not-longer-ago 80 (call .time) (accept s call .sound) e
 
 -- a band that fits a sound sample is ready, where D has ventilation
 fits-ready : (band : ℕ) (ventilation : Bool) → fits band ≡ true → (band ≡ noBand → ⊥) → eqb band bandD && not ventilation ≡ false
@@ -132,7 +128,7 @@ module _ (s : State) (call : EvaluatedCall) (into : isAccepted s call ≡ true)
   held-closed before none =
       let calm = no-cause s call none in
       let sound = sound-recent s call (calm .two) in
-      record { no-fault = calm .five; evaluatedCall = sound .0; recent = sound .1; ready-settled = settled (unsettlesAt s call) refl calm }
+      record { no-fault = calm .five; has-sound = sound .0; recent = sound .1; ready-settled = settled (unsettlesAt s call) refl calm }
     where
       settled : (u : Bool) → unsettlesAt s call ≡ u → NoCause s call → ready (accept s call .settled) (s .settings .ventilation) ≡ true
       settled true p calm = clash (unsettled-fault s call into p) (calm .five)

@@ -1,5 +1,6 @@
 -- Laws of one call, and the theorems over every list.
 pub mod Booleans
+pub mod Moments
 pub mod Lawful
 pub mod Turns
 pub mod Stepped

@@ -3,19 +3,20 @@ use mathlib.Core.Path.{_≡_, refl, sym, _∙_, ap}
 use mathlib.Core.Bool.{Bool, true, false, _&&_, _||_, not, cond}
 use mathlib.Core.Logic.{_↔_}
 use Prim.Native.Nat.{ℕ, _+_, _≤_}
-use lib.Dec.{eqb, leb}
-use borrow.Author.Tests.{leb-true, le-leb, eqb-true, eqb-false, eq-eqb, ne-eqb, not-true}
+use lib.Dec.{eqb}
+use borrow.Author.Tests.{eqb-true, eqb-false, eq-eqb, ne-eqb, not-true}
 use Rattle.units.specs.Wave.{driven}
 use Rattle.units.proofs.LevelOrder.{and-parts}
 use Rattle.pilot.specs.Bands.{noBand}
 use Rattle.rules.specs.Accepted.{pairAt, unsettlesAt, causeAt, opensAt, closesAt, afterOpening, accept}
 use Rattle.rules.specs.Calls.{EvaluatedCall, isSample}
 use Rattle.rules.specs.Pairs.{Pair, verdict, paired, sameBand, inOneBand, bothProven}
-use Rattle.rules.specs.State.{State, Moment, setTo}
+use Rattle.rules.specs.State.{State, setTo, neverOrAgo}
 use Rattle.rules.specs.Step4Opening.{opens}
 use Rattle.rules.specs.Step5Closing.{rested, closes}
 use Rattle.rules.proofs.Booleans.{clash}
 use Rattle.rules.proofs.Lawful.{previousBy}
+use Rattle.rules.proofs.Moments.{never-or-ago}
 
 module _ (s : State) (call : EvaluatedCall) where
   pub closed-next : accept s call .closed ≡ ((s .closed && not (causeAt s call)) || closesAt s call)
@@ -125,26 +126,16 @@ module _ (s : State) (call : EvaluatedCall) where
 
   -- the last opening, where this call does not open
   opening-same : opensAt s call ≡ false → afterOpening s call .opening ≡ s .opening
-  opening-same kept = ap (λ b. cond b (setTo (call .time)) (s .opening)) kept
-
-  abbrev hasRested : Moment → Bool
-  hasRested opening = cond (opening .set) (leb (opening .time + s .settings .pause) (call .time)) true
-
-  rested-gives : hasRested (s .opening) ≡ true → s .opening .set ≡ true → s .opening .time + s .settings .pause ≤ call .time
-  rested-gives long was = leb-true (s .opening .time + s .settings .pause) (call .time) (rw was at long)
-
-  gives-rested : (s .opening .set ≡ true → s .opening .time + s .settings .pause ≤ call .time) → hasRested (s .opening) ≡ true
-  gives-rested long = go (s .opening .set) refl
-    where
-      go : (b : Bool) → s .opening .set ≡ b → cond b (leb (s .opening .time + s .settings .pause) (call .time)) true ≡ true
-      go true was = le-leb (s .opening .time + s .settings .pause) (call .time) (long was)
-      go false was = refl
+  opening-same still = ap (λ b. cond b (setTo (call .time)) (s .opening)) still
 
   -- a call meets every closing condition exactly if these hold
   pub closes-exactly : (closesAt s call ≡ true) ↔ MeetsAll s call
   unfolding closes rested
   closes-exactly = (λ met. to met, λ all. from all)
     where
+      pause : ℕ
+      pause = s .settings .pause
+
       was : (c o : Bool) → c && not o ≡ false → o ≡ false → c ≡ false
       was true true e p = clash refl p
       was true false e p = clash refl e
@@ -160,17 +151,18 @@ module _ (s : State) (call : EvaluatedCall) where
           let two = and-parts (not (opensAt s call)) _ (one .1) in
           let three = and-parts (driven (after .wave)) _ (two .1) in
           let four = and-parts (bothProven (pairAt s call)) (rested (call .time) after) (three .1) in
-          let kept = not-true (opensAt s call) (two .0) in
+          let still = not-true (opensAt s call) (two .0) in
           record {
-            was-open = was (s .closed) (opensAt s call) (not-true (after .closed) (one .0)) kept;
+            was-open = was (s .closed) (opensAt s call) (not-true (after .closed) (one .0)) still;
             driven-wave = three .0;
             pair = proven-exactly (pairAt s call) .0 (four .0);
-            rests = rested-gives (ap hasRested (sym (opening-same kept)) ∙ four .1);
+            rests = never-or-ago pause (call .time) (s .opening) .0 (ap (neverOrAgo pause (call .time)) (sym (opening-same still)) ∙ four .1);
           }
 
       from : MeetsAll s call → closesAt s call ≡ true
       from all =
-          let kept = not-opened (all .was-open) in
-          let long : rested (call .time) (afterOpening s call) ≡ true = ap hasRested (opening-same kept) ∙ gives-rested (all .rests) in
+          let still = not-opened (all .was-open) in
+          let long : rested (call .time) (afterOpening s call) ≡ true =
+          ap (neverOrAgo pause (call .time)) (opening-same still) ∙ never-or-ago pause (call .time) (s .opening) .1 (all .rests) in
           five (afterOpening s call .closed) (opensAt s call) (driven (accept s call .wave)) (bothProven (pairAt s call)) (rested (call .time) (afterOpening s call))
-          (ap (λ b. b && not (opensAt s call)) (all .was-open)) kept (all .driven-wave) (proven-exactly (pairAt s call) .1 (all .pair)) long
+          (ap (λ b. b && not (opensAt s call)) (all .was-open)) still (all .driven-wave) (proven-exactly (pairAt s call) .1 (all .pair)) long

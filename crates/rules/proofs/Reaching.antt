@@ -46,7 +46,7 @@ steady-kept s call into was =
         overrun-closed = λ e. runs (accept s call .closed) refl e;
         overrun-driven = runs-driven s call;
         closed-no-fault = λ e. closed e .no-fault;
-        closed-sampled = λ e. closed e .evaluatedCall;
+        closed-has-sound = λ e. closed e .has-sound;
         closed-sound = λ e. closed e .recent;
         closed-ready = λ e. closed e .ready-settled;
       };
@@ -73,7 +73,7 @@ fresh-steady begin =
         overrun-closed = λ e. clash refl (sym e);
         overrun-driven = λ e. clash refl (sym e);
         closed-no-fault = λ e. refl;
-        closed-sampled = λ e. clash refl (sym e);
+        closed-has-sound = λ e. clash refl (sym e);
         closed-sound = λ e. clash refl (sym e);
         closed-ready = λ e. clash refl (sym e);
       };

@@ -37,7 +37,7 @@ pub record Reached (s : State) : Type 0 where
   pub overrun-driven : s .overrun .set ≡ true → driven (s .wave) ≡ true
   -- closed: no fault, a sound sample within 80 of the last accepted call, and C or ventilated D settled
   pub closed-no-fault : s .closed ≡ true → anyFault (s .faults) ≡ false
-  pub closed-sampled : s .closed ≡ true → s .sound .set ≡ true
+  pub closed-has-sound : s .closed ≡ true → s .sound .set ≡ true
   pub closed-sound : s .closed ≡ true → s .last ≤ s .sound .time + 80
   pub closed-ready : s .closed ≡ true → ready (s .settled) (s .settings .ventilation) ≡ true
 

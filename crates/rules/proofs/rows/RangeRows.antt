@@ -5,8 +5,9 @@ use mathlib.Core.List.{List, [], _∷_, map}
 use Prim.Native.Nat.{ℕ}
 use Rattle.units.specs.Range.{fromTo}
 use Rattle.units.specs.Wave.{driven}
+use Rattle.window.specs.Evaluation.{refused}
 use Rattle.rules.specs.Begin.{beginRefusal, ratedAllowed, pauseAllowed}
-use Rattle.rules.specs.Calls.{limit}
+use Rattle.rules.specs.Calls.{sample, limit}
 use Rattle.rules.specs.Lent.{Lent, lentRefusal, waveAllowed, storedAllowed, timesAllowed, inRange, altered}
 use Rattle.rules.specs.State.{Moment, noFaults, empty, setTo, forgotten}
 use Rattle.rules.specs.Refusals.{timeRefusal, limitAllowed, argumentRefusal}
@@ -107,6 +108,12 @@ RefusedAll time number lents = map (λ l. lentRefusal l (record { time = time; e
 abbrev pub LentRowsHold : Type 0
 LentRowsHold = RefusedAll 50 7 inside × RefusedAll 50 1 outside × RefusedAll 1000000000001 3 late × RefusedAll 50 2 early
 
+-- a refused window refuses its sample, by the window's own number
+abbrev pub WindowRow : Type 0
+WindowRow =
+    map (λ number. lentRefusal (lent 1000 0 6000 1000 50 empty empty empty empty 0) (record { time = 50; event = sample (refused number) })) (4 ∷ 5 ∷ 6 ∷ [])
+    ≡ 4 ∷ 5 ∷ 6 ∷ []
+
 pub begin-rows : BeginRowsHold
 unfolding fromTo ratedAllowed pauseAllowed beginRefusal
 begin-rows = refl
@@ -114,3 +121,7 @@ begin-rows = refl
 pub lent-rows : LentRowsHold
 unfolding fromTo driven ratedAllowed pauseAllowed waveAllowed storedAllowed timesAllowed inRange altered lentRefusal timeRefusal limitAllowed argumentRefusal
 lent-rows = (refl, refl, refl, refl)
+
+pub window-row : WindowRow
+unfolding fromTo driven ratedAllowed pauseAllowed waveAllowed storedAllowed timesAllowed inRange altered lentRefusal timeRefusal limitAllowed argumentRefusal
+window-row = refl
