@@ -3,8 +3,9 @@
  * The host owns a struct chuldariin_controller, and every call gets its address. Every call returns a
  * finished reply: accepted (refusal 0), or refused with a number from CHULDARIIN_REFUSED_... below, and
  * then the controller is as it was. Nothing is allocated, nothing is kept elsewhere, nothing blocks. A
- * sample makes about a million comparisons at the most (1,024 readings, none supported). The other
- * calls take about 700 instructions, a measure up to 1,200.
+ * sample makes n * n comparisons of n readings at the most, of eight instructions each: 8.4 million
+ * instructions for 1,024 readings of which none is supported, 0.5 million for 256. The other calls take
+ * about 700 instructions, a measure up to 1,200.
  *
  *     struct chuldariin_controller post = {0};
  *     struct chuldariin_reply r = chuldariin_begin(&post, now_ms, 32000, 0, false);
@@ -36,7 +37,8 @@
  *     samples in a row can lack the -12 V of the new wave: fault 1, in a step from B1 to B2.
  *   - The 100 ms of table A3.4 include the window and the contactor's travel. At worst these add up: from
  *     the window's first reading to its call, 81 ms, the time to the next call, and the travel. With a
- *     call every 20 ms and windows of 20 ms that is too long: choose short windows.
+ *     call every 20 ms that is above 100 whatever the window. Windows of 4 ms, a call every 5 ms and
+ *     10 ms of travel make 100.
  *   - Whoever makes the limit calls waits: 3 s after a wave was withdrawn in state B (sequence 9.2), and
  *     5 s between two changes of the duty (sequence 6). The controller delays no limit.
  *   - Signals of digital communication (148 kHz and more, table A2.1) are filtered before the converter.

@@ -16,6 +16,6 @@ handedBack reply after = record { lent = view after; reply = asReply reply }
 abbrev pub Answers : Call → Controller → Reply → Controller → Type 0
 Answers call before reply after = handedBack reply after ≡ answerTo (view before) (evaluatedCall call)
 
--- so for begin
+-- lent `before`, begin hands back `reply` and `after`
 abbrev pub Begins : Begin → Controller → Reply → Controller → Type 0
 Begins begin before reply after = handedBack reply after ≡ answerToBegin (view before) begin

@@ -9,10 +9,10 @@ use parts::settings::Settings;
 use units::Millis;
 ghost use mathlib.Core.Path.{_≡_};
 ghost use mathlib.Core.Bool.{cond};
-ghost use Rattle.rules.specs.Answer.{begun, answerToBegin};
+ghost use Rattle.rules.specs.Answer.{begun};
 ghost use Rattle.parts.specs.Views.{beginsWith};
 ghost use Rattle.controller.specs.View.{view};
-ghost use Rattle.calls.specs.Answers.{handedBack};
+ghost use Rattle.calls.specs.Answers.{handedBack, Begins};
 
 // The controller of an accepted begin; its wave is steady +12 V.
 fn fresh(time: Millis, given: Settings) -> Controller
@@ -34,7 +34,7 @@ fn pick(first: bool, a: Answer, b: Answer) -> Answer
 
 // Accepted, the fresh controller and what is shown of it; refused, this one, and the number alone.
 pub(crate) fn begin_with(c: Controller, time: Millis, given: Settings) -> Answer
-    ensures { λ r. ⌜ handedBack (r .reply) (r .controller) ≡ answerToBegin (view c) (beginsWith time given) ⌝ }
+    ensures { λ r. ⌜ Begins (beginsWith time given) c (r .reply) (r .controller) ⌝ }
 {
     let number = refusals::begin_refusal(time, given);
     let accepted = number == 0;

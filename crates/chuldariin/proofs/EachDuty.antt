@@ -8,10 +8,10 @@ use Rattle.duty.specs.DutyFor.{dutyFor}
 use Rattle.duty.proofs.Laws.{nine-exactly, only-nine, greatest, too-low}
 use Rattle.chuldariin.specs.Duties.{hostReading, hostDuty}
 use Rattle.chuldariin.specs.EachDuty.{EachReading, EachDuty}
-use Rattle.chuldariin.specs.declared.duties.Reading.{Reading}
-use Rattle.chuldariin.specs.declared.duties.Duty.{Duty}
+use Rattle.chuldariin.specs.declared.duties.ReadingReply.{ReadingReply}
+use Rattle.chuldariin.specs.declared.duties.DutyReply.{DutyReply}
 
-pub each-reading : (tenths : ℕ) (reply : Reading) → reply ≡ hostReading (readingOf tenths) → EachReading tenths reply
+pub each-reading : (tenths : ℕ) (reply : ReadingReply) → reply ≡ hostReading (readingOf tenths) → EachReading tenths reply
 each-reading tenths reply is = go (decLt 1000 tenths)
   where
     on-scale : (reads : Reads) → readingOf tenths ≡ reads → tenths ≤ 1000 → _≡_ {A = ℕ} (hostReading reads .refusal) 0
@@ -31,7 +31,7 @@ each-reading tenths reply is = go (decLt 1000 tenths)
         let number : _≡_ {A = ℕ} (reply .refusal) 0 = ap (λ r. r .refusal) is ∙ on-scale (readingOf tenths) refl (omega arith) in
         record { nine = (λ e. absurd (omega arith), λ h. absurd (omega arith)); none = (λ e. omega arith, λ h. number); comes-alone = λ h. absurd (omega arith) }
 
-pub each-duty : (available : ℕ) (reply : Duty) → reply ≡ hostDuty (dutyFor available) → EachDuty available reply
+pub each-duty : (available : ℕ) (reply : DutyReply) → reply ≡ hostDuty (dutyFor available) → EachDuty available reply
 each-duty available reply is = go (decLt available 6000)
   where
     go : Dec (available < 6000) → EachDuty available reply

@@ -23,18 +23,18 @@ HostLends before (call ∷ calls) (reply ∷ replies) final =
     × HostLends (now exit) calls replies final
 
 -- an accepted begin, the list of calls after it, every reply, and what the controller holds at the end
-pub record HostRun (begin : Begin) (calls : List Call) (begun : Reply) (replies : List Reply) (final : Controller) : Type 0 where
+pub record HostRun (begin : Begin) (calls : List Call) (beginReply : Reply) (replies : List Reply) (final : Controller) : Type 0 where
   pub entry : RefT Controller
   pub exit : RefT Controller
-  pub begins : BeginsLent begin entry begun exit
-  pub accepted : _≡_ {A = ℕ} (begun .refusal) 0
+  pub begins : BeginsLent begin entry beginReply exit
+  pub accepted : _≡_ {A = ℕ} (beginReply .refusal) 0
   pub lends : HostLends (now exit) calls replies final
 
 -- there is a run, with this reference lent to begin
 abbrev pub HasHostRun : RefT Controller → Begin → List Call → Type 0
 HasHostRun lent begin calls =
-    (begun : Reply)
+    (beginReply : Reply)
     × (replies : List Reply)
     × (final : Controller)
-    × (run : HostRun begin calls begun replies final)
+    × (run : HostRun begin calls beginReply replies final)
     × (run .entry ≡ lent)

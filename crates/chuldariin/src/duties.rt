@@ -9,7 +9,7 @@ ghost use Rattle.chuldariin.specs.Duties.{hostReading, hostDuty};
 
 // What a van reads from a duty.
 #[repr(C)]
-pub struct Reading {
+pub struct ReadingReply {
     // 0, or refusal 9.
     pub refusal: u8,
     // 0 no charging, 1 digital only, 2 a current.
@@ -20,33 +20,33 @@ pub struct Reading {
 
 // The greatest duty for an available current.
 #[repr(C)]
-pub struct Duty {
+pub struct DutyReply {
     // 0, or refusal 10.
     pub refusal: u8,
     // In tenths of a percent; 0 if refused.
     pub duty: u32,
 }
 
-fn host_reading(reading: duty::Reading) -> Reading
+fn host_reading(reading: duty::Reading) -> ReadingReply
     ensures { λ r. ⌜ r ≡ hostReading (asReads reading) ⌝ }
 {
     match reading {
-        duty::Reading::NoCharging => Reading {
+        duty::Reading::NoCharging => ReadingReply {
             refusal: 0,
             kind: 0,
             current: 0,
         },
-        duty::Reading::DigitalOnly => Reading {
+        duty::Reading::DigitalOnly => ReadingReply {
             refusal: 0,
             kind: 1,
             current: 0,
         },
-        duty::Reading::Current(current) => Reading {
+        duty::Reading::Current(current) => ReadingReply {
             refusal: 0,
             kind: 2,
             current: current.0,
         },
-        duty::Reading::AboveScale => Reading {
+        duty::Reading::AboveScale => ReadingReply {
             refusal: 9,
             kind: 0,
             current: 0,
@@ -54,15 +54,15 @@ fn host_reading(reading: duty::Reading) -> Reading
     }
 }
 
-fn host_duty(greatest: Greatest) -> Duty
+fn host_duty(greatest: Greatest) -> DutyReply
     ensures { λ r. ⌜ r ≡ hostDuty (asSends greatest) ⌝ }
 {
     match greatest {
-        Greatest::Duty(duty) => Duty {
+        Greatest::Duty(duty) => DutyReply {
             refusal: 0,
             duty: duty,
         },
-        Greatest::TooLow => Duty {
+        Greatest::TooLow => DutyReply {
             refusal: 10,
             duty: 0,
         },
@@ -71,7 +71,7 @@ fn host_duty(greatest: Greatest) -> Duty
 
 // The reading of a duty, in tenths of a percent; refused 9 above 1000.
 #[no_mangle]
-pub extern "C" fn chuldariin_reading(tenths: u32) -> Reading
+pub extern "C" fn chuldariin_reading(tenths: u32) -> ReadingReply
     ensures { λ r. ⌜ r ≡ hostReading (readingOf tenths) ⌝ }
 {
     host_reading(duty::reading_of(tenths))
@@ -79,7 +79,7 @@ pub extern "C" fn chuldariin_reading(tenths: u32) -> Reading
 
 // The greatest duty of a driven wave for an available current, in milliamps; refused 10 below 6,000.
 #[no_mangle]
-pub extern "C" fn chuldariin_duty(current: u32) -> Duty
+pub extern "C" fn chuldariin_duty(current: u32) -> DutyReply
     ensures { λ r. ⌜ r ≡ hostDuty (dutyFor current) ⌝ }
 {
     host_duty(duty::duty_for(Milliamps(current)))

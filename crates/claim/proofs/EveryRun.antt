@@ -21,7 +21,7 @@ use Rattle.rules.proofs.Altered.{altered-exactly}
 use Rattle.rules.proofs.Booleans.{clash}
 use Rattle.rules.proofs.Every20.{closed-is-sound}
 use Rattle.rules.proofs.EveryList.{every-list}
-use Rattle.rules.proofs.Lending.{contactor-told, demand3-replied}
+use Rattle.rules.proofs.LentReplies.{contactor-told, demand3-replied}
 use Rattle.rules.proofs.RefusalsAre.{refused-by}
 use Rattle.parts.specs.declared.replies.Reply.{Reply}
 use Rattle.parts.specs.Views.{asReply}
@@ -31,7 +31,7 @@ use Rattle.controller.specs.View.{view}
 use Rattle.claim.specs.Run.{Run}
 use Rattle.claim.specs.EveryRun.{replied, lentOfReplies, EveryRun}
 use Rattle.claim.proofs.Begun.{begin-accepted, begun-is}
-use Rattle.claim.proofs.Lending.{each-answered, final-is, reply-is, replies-are as all-replies}
+use Rattle.claim.proofs.RunReplies.{each-answered, final-is, reply-is, replies-are as all-replies}
 
 module _ (begin : Begin) (calls : List Call) (begins : Reply) (replies : List Reply) (final : Controller) (run : Run begin calls begins replies final) where
   accepted : beginRefusal begin ≡ 0

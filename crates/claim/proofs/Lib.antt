@@ -1,6 +1,6 @@
 -- The proofs of what holds of every call and of every run of the calls, and that there are runs.
 pub mod Begun
 pub mod EachCall
-pub mod Lending
+pub mod RunReplies
 pub mod EveryRun
 pub mod Exists

@@ -25,43 +25,43 @@ use Rattle.controller.specs.View.{stateOf, view}
 
 -- the reply before call k: begin's, or that of the call before it
 abbrev pub replied : Reply → List Reply → ℕ → Reply
-replied begun replies k = getD (begun ∷ replies) k begun
+replied beginReply replies k = getD (beginReply ∷ replies) k beginReply
 
 -- the trace of a run: contactor and closings as they were told, all else by the replay
 abbrev pub traceOfReplies : Begin → List Call → Reply → List Reply → Trace
-traceOfReplies begin calls begun replies = traceOf begin calls (λ k. replied begun replies k .closed) (λ k. replied begun replies k .closings)
+traceOfReplies begin calls beginReply replies = traceOf begin calls (λ k. replied beginReply replies k .closed) (λ k. replied beginReply replies k .closings)
 
 -- the controller lent to call k: what the replay keeps, with the closings that were last told
 abbrev pub lentOfReplies : Begin → List Call → Reply → List Reply → ℕ → Lent
-lentOfReplies begin calls begun replies k = record { state = before begin calls k; closings = replied begun replies k .closings }
+lentOfReplies begin calls beginReply replies k = record { state = before begin calls k; closings = replied beginReply replies k .closings }
 
 -- demand 3, and demands 1 and 2 of a whole list: what holds of every run
-pub record EveryRun (begin : Begin) (calls : List Call) (begun : Reply) (replies : List Reply) (final : Controller) : Type 0 where
+pub record EveryRun (begin : Begin) (calls : List Call) (beginReply : Reply) (replies : List Reply) (final : Controller) : Type 0 where
   -- a reply for each call
   pub each-answered : length replies ≡ length calls
   -- the refusal number is the table's (so 0 exactly if the table has none), and the wave the replay's
-  pub refusals : (k : ℕ) → k < length calls → replied begun replies (suc k) .refusal ≡ refusal (before begin calls k) (callAt begin calls k)
-  pub waves : (k : ℕ) → k ≤ length calls → replied begun replies k .wave ≡ before begin calls k .wave
+  pub refusals : (k : ℕ) → k < length calls → replied beginReply replies (suc k) .refusal ≡ refusal (before begin calls k) (callAt begin calls k)
+  pub waves : (k : ℕ) → k ≤ length calls → replied beginReply replies k .wave ≡ before begin calls k .wave
   -- demand 1: each number comes for its condition and for nothing else, and 1 never
-  pub refused-by : (k : ℕ) → k < length calls → RefusedBy (lentOfReplies begin calls begun replies k) (getD calls k noCall) (replied begun replies (suc k) .refusal)
-  pub never-1 : (k : ℕ) → k < length calls → _≡_ {A = ℕ} (replied begun replies (suc k) .refusal) 1 → ⊥
+  pub refused-by : (k : ℕ) → k < length calls → RefusedBy (lentOfReplies begin calls beginReply replies k) (getD calls k noCall) (replied beginReply replies (suc k) .refusal)
+  pub never-1 : (k : ℕ) → k < length calls → _≡_ {A = ℕ} (replied beginReply replies (suc k) .refusal) 1 → ⊥
   -- demand 2: a driven wave is the greatest allowed duty for the lesser of rated and limit
-  pub duties : (k : ℕ) → k ≤ length calls → driven (replied begun replies k .wave) ≡ true
-      → IsGreatest (available (before begin calls k)) (replied begun replies k .wave)
+  pub duties : (k : ℕ) → k ≤ length calls → driven (replied beginReply replies k .wave) ≡ true
+      → IsGreatest (available (before begin calls k)) (replied beginReply replies k .wave)
   -- the controller holds the contactor and the closings that were last told, and else what the replay keeps
-  pub contactor-held : final .closed ≡ replied begun replies (length calls) .closed
-  pub closings-held : final .closings ≡ replied begun replies (length calls) .closings
+  pub contactor-held : final .closed ≡ replied beginReply replies (length calls) .closed
+  pub closings-held : final .closings ≡ replied beginReply replies (length calls) .closings
   pub state-is : stateOf final ≡ replay begin calls
   -- and refusal 1 does not name it
   pub not-altered : Altered (view final) → ⊥
   -- every reply, whole, follows from begin's values and the calls
-  pub replies-are : (k : ℕ) → k ≤ length calls → asReply (replied begun replies k) ≡ replyBefore begin calls k
+  pub replies-are : (k : ℕ) → k ≤ length calls → asReply (replied beginReply replies k) ≡ replyBefore begin calls k
   -- closed exactly when; two proven samples; opening and pause between; the count; the span: rules/specs/Claim.antt, on what was told
-  pub demand3 : Demand3 (traceOfReplies begin calls begun replies)
+  pub demand3 : Demand3 (traceOfReplies begin calls beginReply replies)
   -- begin's settings stay in force, so the pause in all of this is begin's
   pub settings-are : (k : ℕ) → before begin calls k .settings ≡ fresh begin .settings
-  pub least-pause : leastPause (traceOfReplies begin calls begun replies) (length calls) ≡ pauseFor (begin .pause)
+  pub least-pause : leastPause (traceOfReplies begin calls beginReply replies) (length calls) ≡ pauseFor (begin .pause)
   -- what every state on the way has: wave 0 exactly under a fault, and so on
   pub reached : (k : ℕ) → k ≤ length calls → Reached (before begin calls k)
   -- what a board gets that calls every 20 ms: closed only with a sound sample in the last 100 ms
-  pub closed-is-sound : ClosedIsSound (traceOfReplies begin calls begun replies)
+  pub closed-is-sound : ClosedIsSound (traceOfReplies begin calls beginReply replies)

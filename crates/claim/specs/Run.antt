@@ -18,15 +18,15 @@ Lends before (call ∷ calls) (reply ∷ replies) final =
     (after : Controller) × Answers call before reply after × Lends after calls replies final
 
 -- an accepted begin, the list of calls after it, every reply, and the controller at the end
-pub record Run (begin : Begin) (calls : List Call) (begun : Reply) (replies : List Reply) (final : Controller) : Type 0 where
+pub record Run (begin : Begin) (calls : List Call) (beginReply : Reply) (replies : List Reply) (final : Controller) : Type 0 where
   -- what the host lends to begin, and what it gets back
   pub lent : Controller
   pub fresh : Controller
-  pub begins : Begins begin lent begun fresh
-  pub accepted : _≡_ {A = ℕ} (begun .refusal) 0
+  pub begins : Begins begin lent beginReply fresh
+  pub accepted : _≡_ {A = ℕ} (beginReply .refusal) 0
   pub lends : Lends fresh calls replies final
 
 -- there is a run, with this controller lent to begin
 abbrev pub HasRun : Controller → Begin → List Call → Type 0
 HasRun lent begin calls =
-    (begun : Reply) × (replies : List Reply) × (final : Controller) × (run : Run begin calls begun replies final) × (run .lent ≡ lent)
+    (beginReply : Reply) × (replies : List Reply) × (final : Controller) × (run : Run begin calls beginReply replies final) × (run .lent ≡ lent)

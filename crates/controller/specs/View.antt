@@ -46,7 +46,7 @@ abbrev pub onClosing : Bool → ℕ → Pair → Lent → Lent
 onClosing opened time pair lent =
     record { state = stepClosing opened time pair (lent .state); closings = counted (closes opened time pair (lent .state)) (lent .closings) }
 
--- an accepted call, so too
+-- an accepted call, with the count as 32 bits hold it
 abbrev pub onAccepted : EvaluatedCall → Lent → Lent
 onAccepted call lent =
     record { state = accept (lent .state) call; closings = counted (closesAt (lent .state) call) (lent .closings) }

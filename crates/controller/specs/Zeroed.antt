@@ -4,7 +4,7 @@ use Prim.Native.Nat.{ℕ}
 use Rattle.rules.specs.Lent.{Lent}
 use Rattle.rules.specs.State.{Settings, unsettled, noFaults, empty, forgotten}
 
--- nothing stored
+-- a controller with nothing stored but settings, wave and last accepted time
 abbrev pub blank : Settings → ℕ → ℕ → Lent
 blank settings wave last =
     record {

@@ -65,7 +65,7 @@ pub fn blank(settings: Settings, wave: u32, last: Millis) -> Controller
 }
 
 impl Controller {
-    // All zeros, as memory that the host has cleared: something to lend to the first begin. Refusal 1 names it in every other call.
+    // All zeros, as memory that the host has cleared: something to lend to the first begin. Refusal 1 names it in every other call, unless the time is too late (3).
     pub fn zeroed() -> Controller
         ensures { λ r. ⌜ view r ≡ zeroed ⌝ }
     {

@@ -70,7 +70,7 @@ impl Controller {
         self
     }
 
-    // Step 3: the wave, and the stop that follows from it.
+    // Step 3: the wave, and what follows from it for the over-run and the stop.
     pub(crate) fn wave(mut self, time: Millis) -> Controller
         ensures { λ r. ⌜ view r ≡ onState (stepWave (time .0)) (view self) ⌝ }
     {
@@ -133,9 +133,9 @@ impl Controller {
     {
         let driven = units::driven(self.wave);
         let proven = pair.both_proven();
-        let rested = self.opening.none_or_at_least_ago(self.settings.pause, time);
-        let ready = conditions::all(driven, proven, rested);
-        conditions::all(!self.closed, !opened, ready)
+        let pause_over = self.opening.none_or_at_least_ago(self.settings.pause, time);
+        let met = conditions::all(driven, proven, pause_over);
+        conditions::all(!self.closed, !opened, met)
     }
 
     // Step 5: closing.

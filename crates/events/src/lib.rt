@@ -14,8 +14,8 @@ ghost use mathlib.Core.Path.{_≡_};
 ghost use mathlib.Core.Bool.{cond};
 ghost use Rattle.duty.specs.Answers.{asReads};
 ghost use Rattle.window.specs.Answers.{asEvaluation};
-ghost use Rattle.rules.specs.Calls.{sample, isSample, isFault};
-ghost use Rattle.rules.specs.Pairs.{verdict};
+ghost use Rattle.rules.specs.Calls.{isSample, isFault};
+ghost use Rattle.rules.specs.Pairs.{windowVerdict, verdict};
 ghost use Rattle.rules.specs.State.{State};
 ghost use Rattle.rules.specs.Step1Event.{settledBy, soundBy, limitBy, faultsBy, currentOf, announced, isOver, overrunJudged, overrunAt, overrunBy};
 ghost use Rattle.parts.specs.Views.{asMoment, asPair, asFaults};
@@ -63,7 +63,7 @@ pub fn is_fault(event: Event) -> bool
 }
 
 fn judged(window: Evaluated, wave: u32, ventilation: bool) -> Verdict
-    ensures { λ r. ⌜ ((s : State) → s .wave ≡ wave → s .settings .ventilation ≡ ventilation → r ≡ verdict s (sample (asEvaluation window))) ⌝ }
+    ensures { λ r. ⌜ r ≡ windowVerdict wave ventilation (asEvaluation window) ⌝ }
 {
     match window {
         Evaluated::Levels { high, low } => pilot::verdicts::judge(wave, high, low, ventilation),
@@ -178,10 +178,7 @@ fn judged_over(judges: bool, time: Millis, line: Milliamps, wave: u32, overrun: 
 
 // A measure is judged where the contactor is closed and the wave driven.
 fn measured(time: Millis, line: Milliamps, closed: bool, wave: u32, overrun: Moment) -> Moment
-    ensures { λ r. ⌜
-        ((s : State) → s .closed ≡ closed → s .wave ≡ wave → s .overrun ≡ asMoment overrun
-        → asMoment r ≡ overrunAt (time .0) (line .0) s)
-        ⌝ }
+    ensures { λ r. ⌜ asMoment r ≡ overrunAt (time .0) (line .0) closed wave (asMoment overrun) ⌝ }
 {
     let driven = units::driven(wave);
     let judges = conditions::both(closed, driven);

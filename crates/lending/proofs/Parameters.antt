@@ -65,7 +65,7 @@ by-value-side n = record { spelling = λ p. p .by-value; at = λ κs. κs }
 abbrev pub lent-side : (n : ℕ) → Side n (suc n)
 lent-side n = record { spelling = λ p. p .lent; at = λ κs. κs .1 }
 
--- what `noLocal` is, with no model
+-- the value of the language's `noLocal`, which needs no model here
 abbrev no-local : Ty × ℕ
 no-local = (tyEnum [] ttnil, zero)
 

@@ -37,7 +37,7 @@ fn letter_by(faulted: bool, known: bool, settled: u8) -> u8
 pub fn letter(faulted: bool, settled: u8) -> u8
     ensures { λ r. ⌜ r ≡ letter faulted settled ⌝ }
 {
-    let known = samples::is_letter(settled);
+    let known = samples::is_settled(settled);
     letter_by(faulted, known, settled)
 }
 

@@ -4,7 +4,7 @@ use units::conditions;
 ghost use mathlib.Core.Path.{_≡_};
 ghost use mathlib.Core.Bool.{cond};
 ghost use Rattle.rules.specs.State.{noVerdict, forgotten, keptSample};
-ghost use Rattle.rules.specs.Step3Wave.{isLetter};
+ghost use Rattle.rules.specs.Step3Wave.{isSettled};
 ghost use Rattle.rules.specs.Pairs.{paired, sameBand, inOneBand, bothProven, bothDiodeBad, bothUnsound};
 ghost use Rattle.parts.specs.Views.{asPrevious, asPair};
 
@@ -132,8 +132,8 @@ impl Pair {
 }
 
 // A settled state: one of A to E.
-pub fn is_letter(settled: u8) -> bool
-    ensures { λ r. ⌜ r ≡ isLetter settled ⌝ }
+pub fn is_settled(settled: u8) -> bool
+    ensures { λ r. ⌜ r ≡ isSettled settled ⌝ }
 {
     let not_below = b'A' <= settled;
     let not_above = settled <= b'E';

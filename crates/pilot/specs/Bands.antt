@@ -5,22 +5,27 @@ use lib.Dec.{eqb}
 use lib.IntN.{ℤ, pos, negℤ}
 use Rattle.units.specs.Range.{within}
 
--- the letters of the bands, and the 0 of a high level that has none
+-- the letter A
 abbrev pub bandA : ℕ
 bandA = 65
 
+-- the letter B
 abbrev pub bandB : ℕ
 bandB = 66
 
+-- the letter C
 abbrev pub bandC : ℕ
 bandC = 67
 
+-- the letter D
 abbrev pub bandD : ℕ
 bandD = 68
 
+-- the letter E
 abbrev pub bandE : ℕ
 bandE = 69
 
+-- no band: a high level outside every band
 abbrev pub noBand : ℕ
 noBand = 0
 

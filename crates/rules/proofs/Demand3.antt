@@ -4,7 +4,7 @@ use Rattle.rules.specs.Claim.{Trace, Demand3}
 use Rattle.rules.proofs.Exactly.{exactly}
 use Rattle.rules.proofs.Lawful.{Memory, Lawful}
 use Rattle.rules.proofs.Remembered.{proves}
-use Rattle.rules.proofs.Rests.{rests}
+use Rattle.rules.proofs.Pauses.{pauses}
 use Rattle.rules.proofs.Spacing.{counts, at-most, spans}
 
 pub demand3-of : (t : Trace) (memory : Memory) → Lawful t memory → Demand3 t
@@ -12,7 +12,7 @@ demand3-of t memory laws =
     record {
       exactly = exactly t memory laws;
       proves = proves t memory laws;
-      rests = rests t memory laws;
+      pauses = pauses t memory laws;
       counts = counts t memory laws (t .length) (omega arith);
       at-most = at-most t memory laws (t .length) (omega arith);
       spans = spans t memory laws;

@@ -100,8 +100,8 @@ module _ (begin : Begin) (calls : List Call) where
             let is : i ≡ n = omega (arith, known .before) in
             ap (λ x. x .last) (accepted-is begin calls n (known .within) (rw is at (known .accepted .1))) ∙ ap (λ k. t .time k) (sym is)
 
-    after-last : (i n moment : ℕ) → LastAccepted t i n → t .time i ≤ moment → moment ≤ t .time i + 20 → t .toldClosed n ≡ true → SoundWithin100 t n moment
-    after-last i n moment known past due closed =
+    after-last : (i n instant : ℕ) → LastAccepted t i n → t .time i ≤ instant → instant ≤ t .time i + 20 → t .toldClosed n ≡ true → SoundWithin100 t n instant
+    after-last i n instant known past due closed =
         let here = list-reaches begin (take n calls) in
         let is : before begin calls n .closed ≡ true = sym (told-is n (known .within)) ∙ closed in
         let sample = last-sound n (known .within) (here .closed-has-sound is) in
@@ -122,9 +122,9 @@ module _ (begin : Begin) (calls : List Call) where
     pub closed-is-sound : ClosedIsSound t
     closed-is-sound =
         record {
-          between-calls = λ every i k n moment two after within past until closed.
+          between-calls = λ every i k n instant two after within past until closed.
               let due = every i k two in
-              after-last i n moment (cut two after within) past (omega arith) closed;
+              after-last i n instant (cut two after within) past (omega arith) closed;
           after-last = after-last;
         }
       where

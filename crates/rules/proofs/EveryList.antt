@@ -14,7 +14,7 @@ use Rattle.rules.specs.Replay.{isAccepted, step, replay}
 use Rattle.rules.specs.State.{State}
 use Rattle.rules.specs.Traces.{before, callAt, replyBefore, answered}
 use Rattle.rules.proofs.Every20.{closed-is-sound}
-use Rattle.rules.proofs.Lending.{lent-refusal, lent-is, tally-not-altered, reply-is, contactor-told, closings-told, demand3}
+use Rattle.rules.proofs.LentReplies.{lent-refusal, lent-is, tally-not-altered, reply-is, contactor-told, closings-told, demand3}
 use Rattle.rules.proofs.Reaching.{list-reaches}
 use Rattle.rules.proofs.Stepped.{step-to}
 

@@ -15,7 +15,7 @@ use Rattle.rules.specs.Pairs.{Pair, verdict, paired, sameBand, inOneBand
 use Rattle.rules.specs.Replay.{isAccepted}
 use Rattle.rules.specs.State.{State, anyFault, setTo}
 use Rattle.rules.specs.Step1Event.{settledBy, soundBy}
-use Rattle.rules.specs.Step3Wave.{isLetter, isUAE, unventilatedD}
+use Rattle.rules.specs.Step3Wave.{isSettled, isUAE, unventilatedD}
 use Rattle.rules.specs.Step4Opening.{cause1, cause2, cause3, cause4, cause5, cause}
 use Rattle.rules.proofs.Booleans.{clash}
 use Rattle.rules.proofs.Faulted.{unsettled-fault}
@@ -38,7 +38,7 @@ module _ (s : State) (call : EvaluatedCall) where
 
   -- closing by the call
   closing-closed : closesAt s call ≡ true → Closed (accept s call)
-  unfolding soundBy settledBy isUAE isLetter fromTo
+  unfolding soundBy settledBy isUAE isSettled fromTo
   closing-closed met =
       let all = closes-exactly s call .0 met in
       let offer = driven-offers s call (all .driven-wave) in

@@ -1,4 +1,4 @@
--- The laws of one call that the list theorem rests on. Requests that change a step touch these laws and not the theorem.
+-- The laws of one call that the list theorem rests on. A change of a step touches these laws, and not the theorem.
 use mathlib.Core.Path.{_≡_, refl, sym, _∙_, ap}
 use mathlib.Core.Bool.{Bool, true, false, _&&_, _||_, not, cond}
 use Prim.Native.Nat.{ℕ, suc, _+_, _≤_, _<_}
@@ -32,7 +32,7 @@ module _ (t : Trace) (memory : Memory) where
     pub second-proven : t .verdict k .proven ≡ true
     pub one-band : memory .previous k .verdict .band ≡ t .verdict k .band
     pub has-band : t .verdict k .band ≡ noBand → ⊥
-    pub rested : memory .opening k .set ≡ true → memory .opening k .time + t .pause k ≤ t .time k
+    pub pauseOver : memory .opening k .set ≡ true → memory .opening k .time + t .pause k ≤ t .time k
 
   pub record Law (k : ℕ) : Type 0 where
     pub told-next : t .toldClosed (suc k) ≡ cond (t .accepted k) ((t .toldClosed k && not (t .cause k)) || t .closes k) (t .toldClosed k)

@@ -6,7 +6,7 @@ pub mod Turns
 pub mod Stepped
 pub mod Exactly
 pub mod Remembered
-pub mod Rests
+pub mod Pauses
 pub mod Spacing
 pub mod Demand3
 pub mod OneCall
@@ -15,7 +15,7 @@ pub mod Replayed
 pub mod Waves
 pub mod Ranges
 pub mod Lists
-pub mod Lending
+pub mod LentReplies
 pub mod Samples
 pub mod Faulted
 pub mod Offering
@@ -27,5 +27,5 @@ pub mod EveryList
 pub mod Altered
 pub mod RefusalsAre
 pub mod BeginRefusals
-pub mod Apart
+pub mod NotOpened
 pub mod rows

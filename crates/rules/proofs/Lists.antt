@@ -47,6 +47,6 @@ fresh-in-range begin accepted =
       stop = refl;
     }
 
--- theorem 5: no list leads out of the ranges
+-- no list leads out of the ranges of refusal 1
 pub list-in-range : (begin : Begin) (calls : List Call) → beginRefusal begin ≡ 0 → InRange (replay begin calls)
 list-in-range begin calls accepted = replay-keeps InRange range-kept begin calls (fresh-in-range begin accepted)

@@ -13,14 +13,14 @@ use Rattle.pilot.specs.Bands.{bandA, bandB, bandC, bandD, bandE, ready}
 use Rattle.rules.specs.Accepted.{afterLatch, accept}
 use Rattle.rules.specs.Calls.{fault, EvaluatedCall}
 use Rattle.rules.specs.State.{State, anyFault}
-use Rattle.rules.specs.Step3Wave.{isLetter, isUAE, available}
+use Rattle.rules.specs.Step3Wave.{isSettled, isUAE, available}
 use Rattle.rules.proofs.Booleans.{clash}
 use Rattle.rules.proofs.Waves.{Offers, WaveIs, low, high, square, wave-is, greatest-driven}
 
 -- the settled states for which a duty is sent
 pub offered : (settled : ℕ) (ventilation : Bool) → isUAE settled ≡ false → eqb settled bandD && not ventilation ≡ false
     → (settled ≡ bandB) ⊎ (ready settled ventilation ≡ true)
-unfolding isUAE isLetter fromTo ready
+unfolding isUAE isSettled fromTo ready
 offered settled ventilation state plain =
     go (eqb settled bandB) (eqb settled bandC) (eqb settled bandD) ventilation refl refl refl plain
   where

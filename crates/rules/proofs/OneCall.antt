@@ -13,7 +13,7 @@ use Rattle.rules.specs.Calls.{EvaluatedCall, isSample}
 use Rattle.rules.specs.Pairs.{Pair, verdict, paired, sameBand, inOneBand, bothProven}
 use Rattle.rules.specs.State.{State, setTo, neverOrAgo}
 use Rattle.rules.specs.Step4Opening.{opens}
-use Rattle.rules.specs.Step5Closing.{rested, closes}
+use Rattle.rules.specs.Step5Closing.{pauseOver, closes}
 use Rattle.rules.proofs.Booleans.{clash}
 use Rattle.rules.proofs.Lawful.{previousBy}
 use Rattle.rules.proofs.Moments.{never-or-ago}
@@ -117,7 +117,7 @@ pub record MeetsAll (s : State) (call : EvaluatedCall) : Type 0 where
   pub was-open : s .closed ≡ false
   pub driven-wave : driven (accept s call .wave) ≡ true
   pub pair : ProvenPair (pairAt s call)
-  pub rests : s .opening .set ≡ true → s .opening .time + s .settings .pause ≤ call .time
+  pub pauses : s .opening .set ≡ true → s .opening .time + s .settings .pause ≤ call .time
 
 module _ (s : State) (call : EvaluatedCall) where
   not-opened : s .closed ≡ false → opensAt s call ≡ false
@@ -130,7 +130,7 @@ module _ (s : State) (call : EvaluatedCall) where
 
   -- a call meets every closing condition exactly if these hold
   pub closes-exactly : (closesAt s call ≡ true) ↔ MeetsAll s call
-  unfolding closes rested
+  unfolding closes pauseOver
   closes-exactly = (λ met. to met, λ all. from all)
     where
       pause : ℕ
@@ -150,19 +150,19 @@ module _ (s : State) (call : EvaluatedCall) where
           let one = and-parts (not (after .closed)) _ met in
           let two = and-parts (not (opensAt s call)) _ (one .1) in
           let three = and-parts (driven (after .wave)) _ (two .1) in
-          let four = and-parts (bothProven (pairAt s call)) (rested (call .time) after) (three .1) in
+          let four = and-parts (bothProven (pairAt s call)) (pauseOver (call .time) after) (three .1) in
           let still = not-true (opensAt s call) (two .0) in
           record {
             was-open = was (s .closed) (opensAt s call) (not-true (after .closed) (one .0)) still;
             driven-wave = three .0;
             pair = proven-exactly (pairAt s call) .0 (four .0);
-            rests = never-or-ago pause (call .time) (s .opening) .0 (ap (neverOrAgo pause (call .time)) (sym (opening-same still)) ∙ four .1);
+            pauses = never-or-ago pause (call .time) (s .opening) .0 (ap (neverOrAgo pause (call .time)) (sym (opening-same still)) ∙ four .1);
           }
 
       from : MeetsAll s call → closesAt s call ≡ true
       from all =
           let still = not-opened (all .was-open) in
-          let long : rested (call .time) (afterOpening s call) ≡ true =
-          ap (neverOrAgo pause (call .time)) (opening-same still) ∙ never-or-ago pause (call .time) (s .opening) .1 (all .rests) in
-          five (afterOpening s call .closed) (opensAt s call) (driven (accept s call .wave)) (bothProven (pairAt s call)) (rested (call .time) (afterOpening s call))
+          let long : pauseOver (call .time) (afterOpening s call) ≡ true =
+          ap (neverOrAgo pause (call .time)) (opening-same still) ∙ never-or-ago pause (call .time) (s .opening) .1 (all .pauses) in
+          five (afterOpening s call .closed) (opensAt s call) (driven (accept s call .wave)) (bothProven (pairAt s call)) (pauseOver (call .time) (afterOpening s call))
           (ap (λ b. b && not (opensAt s call)) (all .was-open)) still (all .driven-wave) (proven-exactly (pairAt s call) .1 (all .pair)) long

@@ -112,7 +112,7 @@ module _ (s : State) (call : EvaluatedCall) where
   limit-right clear e p = p
   limit-right tick e p = p
 
-  -- theorem 5, for one call: of any state, reached by a list or not
+  -- refusal 1's ranges, for one call: of any state, reached by a list or not
   pub range-kept : isAccepted s call ≡ true → InRange s → InRange (accept s call)
   unfolding soundBy overrunUnder stopUnder
   range-kept into was =

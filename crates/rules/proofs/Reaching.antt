@@ -22,13 +22,13 @@ use Rattle.rules.proofs.Opened.{no-overrun, no-stop, runs-driven}
 use Rattle.rules.proofs.Held.{left-closed, previous-fits}
 
 -- what is kept from call to call
-pub record Steady (s : State) : Type 0 where
+pub record Invariant (s : State) : Type 0 where
   pub reached : Reached s
   pub previous : s .previous .kept ≡ true → s .previous .verdict .sound ≡ true → fits (s .previous .verdict .band) ≡ true
 
-pub steady-kept : (s : State) (call : EvaluatedCall) → isAccepted s call ≡ true → Steady s → Steady (accept s call)
+pub invariant-holds : (s : State) (call : EvaluatedCall) → isAccepted s call ≡ true → Invariant s → Invariant (accept s call)
 unfolding available unventilatedD
-steady-kept s call into was =
+invariant-holds s call into was =
     let before = was .reached in
     let closed = left-closed s call into (was .previous) (before .closed-ready) in
     record {
@@ -57,9 +57,9 @@ steady-kept s call into was =
     runs true p e = refl
     runs false p e = clash e (no-overrun s call (was .reached .open-no-overrun) p)
 
-pub fresh-steady : (begin : Begin) → Steady (fresh begin)
+pub fresh-invariant : (begin : Begin) → Invariant (fresh begin)
 unfolding fresh driven fromTo anyFault
-fresh-steady begin =
+fresh-invariant begin =
     record {
       reached = record {
         wave-low = (λ e. absurd (omega arith), λ e. clash refl (sym e));
@@ -81,4 +81,4 @@ fresh-steady begin =
     }
 
 pub list-reaches : (begin : Begin) (calls : List Call) → Reached (replay begin calls)
-list-reaches begin calls = replay-keeps Steady steady-kept begin calls (fresh-steady begin) .reached
+list-reaches begin calls = replay-keeps Invariant invariant-holds begin calls (fresh-invariant begin) .reached

@@ -15,7 +15,7 @@ use Rattle.window.proofs.Laws.{refused-exactly}
 use Rattle.rules.specs.Begin.{largestTime}
 use Rattle.rules.specs.Calls.{Event, Call, sample, limit, measure, fault, clear, tick, evaluated, evaluatedCall}
 use Rattle.rules.specs.Lent.{Lent, altered, lentRefusal}
-use Rattle.rules.specs.RefusalsAre.{Altered, OnTime, Judged, WrongFor, RefusedBy}
+use Rattle.rules.specs.RefusalsAre.{Altered, OnTime, ArgumentsAsked, WrongFor, RefusedBy}
 use Rattle.rules.specs.Refusals.{orElse, timeRefusal, windowRefusal, kindAllowed, limitAllowed, measureAllowed, argumentRefusal}
 use Rattle.rules.proofs.Altered.{altered-exactly}
 use Rattle.rules.proofs.Booleans.{clash}
@@ -28,7 +28,7 @@ pub data Way (lent : Lent) (call : Call) : Type 0 where
   late : lentRefusal lent (evaluatedCall call) ≡ 3 → largestTime < call .time → Way lent call
   early : lentRefusal lent (evaluatedCall call) ≡ 2 → call .time ≤ largestTime → call .time < lent .state .last → Way lent call
   changed : lentRefusal lent (evaluatedCall call) ≡ 1 → OnTime lent call → Altered lent → Way lent call
-  judged : lentRefusal lent (evaluatedCall call) ≡ argumentRefusal (evaluated (call .event)) → Judged lent call → Way lent call
+  judged : lentRefusal lent (evaluatedCall call) ≡ argumentRefusal (evaluated (call .event)) → ArgumentsAsked lent call → Way lent call
 
 way : (lent : Lent) (call : Call) → Way lent call
 unfolding lentRefusal timeRefusal
@@ -161,19 +161,19 @@ module _ (lent : Lent) (call : Call) where
       one-back (changed is h k) both = is
       one-back (judged is h) both = absurd (h .1 (both .1))
 
-      later : (n : ℕ) → 4 ≤ n → Way lent call → lentRefusal lent (evaluatedCall call) ≡ n → Judged lent call × WrongFor n (call .event)
+      later : (n : ℕ) → 4 ≤ n → Way lent call → lentRefusal lent (evaluatedCall call) ≡ n → ArgumentsAsked lent call × WrongFor n (call .event)
       later n big (late is h) e = absurd (omega arith)
       later n big (early is h k) e = absurd (omega arith)
       later n big (changed is h k) e = absurd (omega arith)
       later n big (judged is h) e = (h, arguments (call .event) n big .0 (sym is ∙ e))
 
-      later-back : (n : ℕ) → 4 ≤ n → Way lent call → Judged lent call × WrongFor n (call .event) → lentRefusal lent (evaluatedCall call) ≡ n
+      later-back : (n : ℕ) → 4 ≤ n → Way lent call → ArgumentsAsked lent call × WrongFor n (call .event) → lentRefusal lent (evaluatedCall call) ≡ n
       later-back n big (late is h) all = absurd (omega (arith, all .0 .0))
       later-back n big (early is h k) all = absurd (omega (arith, all .0 .0))
       later-back n big (changed is h k) all = absurd (all .0 .1 k)
       later-back n big (judged is h) all = is ∙ arguments (call .event) n big .1 (all .1)
 
-      none : Way lent call → lentRefusal lent (evaluatedCall call) ≡ 0 → Judged lent call × ((n : ℕ) → WrongFor n (call .event) → ⊥)
+      none : Way lent call → lentRefusal lent (evaluatedCall call) ≡ 0 → ArgumentsAsked lent call × ((n : ℕ) → WrongFor n (call .event) → ⊥)
       none (late is h) e = absurd (omega arith)
       none (early is h k) e = absurd (omega arith)
       none (changed is h k) e = absurd (omega arith)
@@ -185,7 +185,7 @@ module _ (lent : Lent) (call : Call) where
             absurd (omega arith),
       )
 
-      none-back : Way lent call → Known (argumentRefusal (evaluated (call .event))) → Judged lent call × ((n : ℕ) → WrongFor n (call .event) → ⊥)
+      none-back : Way lent call → Known (argumentRefusal (evaluated (call .event))) → ArgumentsAsked lent call × ((n : ℕ) → WrongFor n (call .event) → ⊥)
           → lentRefusal lent (evaluatedCall call) ≡ 0
       none-back (late is h) number all = absurd (omega (arith, all .0 .0))
       none-back (early is h k) number all = absurd (omega (arith, all .0 .0))

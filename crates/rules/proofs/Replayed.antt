@@ -76,7 +76,7 @@ module _ (begin : Begin) (calls : List Call) where
             second-proven = all .pair .second-proven;
             one-band = all .pair .one-band;
             has-band = all .pair .has-band;
-            rested = all .rests;
+            pauseOver = all .pauses;
           }
 
       law : Law (traceOf begin calls toldClosed carried) memoryOf k

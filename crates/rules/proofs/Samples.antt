@@ -15,7 +15,7 @@ use Rattle.pilot.specs.Verdicts.{sound, proven, verdictOf}
 use Rattle.pilot.proofs.Laws.{bands-are}
 use Rattle.window.specs.Evaluation.{Evaluation, levels, refused}
 use Rattle.rules.specs.Calls.{Event, sample, limit, measure, fault, clear, tick}
-use Rattle.rules.specs.Pairs.{verdict}
+use Rattle.rules.specs.Pairs.{verdict, windowVerdict}
 use Rattle.rules.specs.State.{State}
 use Rattle.rules.proofs.Booleans.{clash}
 
@@ -99,7 +99,7 @@ module _ (high : ℤ) where
 -- the same of a call's verdict: a call that is no sample has none of them
 module _ (s : State) where
   pub verdict-fits : (event : Event Evaluation) → verdict s event .sound ≡ true → fits (verdict s event .band) ≡ true
-  unfolding verdict verdictOf
+  unfolding verdict windowVerdict verdictOf
   verdict-fits (sample (levels high low)) e = sound-fits high (s .wave) low e
   verdict-fits (sample (refused number)) e = refl
   verdict-fits (limit given) e = refl
@@ -109,7 +109,7 @@ module _ (s : State) where
   verdict-fits tick e = refl
 
   pub verdict-sound : (event : Event Evaluation) → verdict s event .proven ≡ true → verdict s event .sound ≡ true
-  unfolding verdict verdictOf
+  unfolding verdict windowVerdict verdictOf
   verdict-sound (sample (levels high low)) e = proven-sound high (s .wave) low (s .settings .ventilation) e
   verdict-sound (sample (refused number)) e = e
   verdict-sound (limit given) e = e
@@ -119,7 +119,7 @@ module _ (s : State) where
   verdict-sound tick e = e
 
   pub verdict-ready : (event : Event Evaluation) → verdict s event .proven ≡ true → ready (verdict s event .band) (s .settings .ventilation) ≡ true
-  unfolding verdict verdictOf
+  unfolding verdict windowVerdict verdictOf
   verdict-ready (sample (levels high low)) e = proven-ready high (s .wave) low (s .settings .ventilation) e
   verdict-ready (sample (refused number)) e = both-ways (sym e)
   verdict-ready (limit given) e = both-ways (sym e)

@@ -11,7 +11,7 @@ use Rattle.rules.specs.Step5Closing.{closingsBy}
 use Rattle.rules.proofs.Booleans.{clash}
 use Rattle.rules.proofs.Lawful.{Memory, Lawful, Law, Outcome, refused, stays, shuts, opens, outcome}
 use Rattle.rules.proofs.Remembered.{closing-meets}
-use Rattle.rules.proofs.Rests.{LastOpening, between, paused}
+use Rattle.rules.proofs.Pauses.{LastOpening, between, paused}
 
 module _ (t : Trace) (memory : Memory) (laws : Lawful t memory) where
   -- the clock: the last accepted time never falls

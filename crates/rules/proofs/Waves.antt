@@ -12,7 +12,7 @@ use Rattle.duty.specs.DutyFor.{dutyFor, IsGreatest}
 use Rattle.duty.proofs.Laws.{greatest}
 use Rattle.rules.specs.Lent.{waveAllowed}
 use Rattle.rules.specs.State.{State, anyFault}
-use Rattle.rules.specs.Step3Wave.{isUAE, unventilatedD, available, heldHigh, sent, waveFor}
+use Rattle.rules.specs.Step3Wave.{isUAE, unventilatedD, available, noDuty, sent, waveFor}
 use Rattle.rules.proofs.Booleans.{clash}
 
 -- no duty is held back
@@ -28,8 +28,8 @@ greatest-driven available duty is = inside 100 960 duty (is .least) (is .most)
 
 module _ (s : State) where
   -- a duty is sent, if there is no fault, exactly if these hold
-  pub offers-exactly : (heldHigh (available s) (s .settled) (s .settings .ventilation) ≡ false) ↔ Offers s
-  unfolding heldHigh
+  pub offers-exactly : (noDuty (available s) (s .settled) (s .settings .ventilation) ≡ false) ↔ Offers s
+  unfolding noDuty
   offers-exactly = (
     λ e. go (ltb (available s) 6000) (isUAE (s .settled)) (unventilatedD (s .settled) (s .settings .ventilation)) refl refl refl e,
     λ offer. rw (le-ltb (available s) 6000 (offer .enough), offer .state, offer .ventilated),
@@ -57,9 +57,9 @@ module _ (s : State) where
 
   pub wave-is : WaveIs (waveFor s)
   unfolding waveFor
-  wave-is = go (anyFault (s .faults)) (heldHigh (available s) (s .settled) (s .settings .ventilation)) refl refl
+  wave-is = go (anyFault (s .faults)) (noDuty (available s) (s .settled) (s .settings .ventilation)) refl refl
     where
-      go : (f h : Bool) → anyFault (s .faults) ≡ f → heldHigh (available s) (s .settled) (s .settings .ventilation) ≡ h → WaveIs (waveFor s)
+      go : (f h : Bool) → anyFault (s .faults) ≡ f → noDuty (available s) (s .settled) (s .settings .ventilation) ≡ h → WaveIs (waveFor s)
       go true h p q = low (rw p) p
       go false true p q = high (rw (p, q)) p
       go false false p q =

@@ -10,7 +10,7 @@ use Rattle.rules.specs.Step4Opening.{cause, opens, stepOpening}
 use Rattle.rules.specs.Step5Closing.{closes, stepClosing}
 use Rattle.rules.specs.State.{State, keptSample}
 
--- the end of a call: its time stays, and so does its sample, unless the call forgot
+-- the end of a call: its time is kept; its sample becomes the previous one, unless the call forgot
 abbrev pub stepEnd : Bool → ℕ → Pair → State → State
 stepEnd forgot time pair s =
     record {
@@ -69,6 +69,6 @@ module _ (s : State) (call : EvaluatedCall) where
   abbrev pub afterClosing : State
   afterClosing = stepClosing opensAt (call .time) pairAt afterOpening
 
-  -- what is kept of an accepted call
+  -- what is kept after an accepted call
   abbrev pub accept : State
   accept = stepEnd (unsettlesAt || opensAt) (call .time) pairAt afterClosing

@@ -63,7 +63,7 @@ module _ (t : Trace) where
 
   -- between closing i and closing k with its samples j and k: an opening before both samples, and before the closing the pause that is in
   -- force there
-  pub record Rested (i j k : ℕ) : Type 0 where
+  pub record PausedBetween (i j k : ℕ) : Type 0 where
     pub opening : ℕ
     pub opens : Opening opening
     pub after-closing : i < opening
@@ -94,7 +94,7 @@ module _ (t : Trace) where
   pub record Demand3 : Type 0 where
     pub exactly : (t .toldClosed (t .length) ≡ true) ↔ ((k : ℕ) × HeldSince k)
     pub proves : (k : ℕ) → Closing k → (j : ℕ) × Proves j k
-    pub rests : (i j k : ℕ) → i < k → Closing i → Closing k → Proves j k → Rested i j k
+    pub pauses : (i j k : ℕ) → i < k → Closing i → Closing k → Proves j k → PausedBetween i j k
     pub counts : t .carried (t .length) ≡ closingsIn (t .length)
     pub at-most : closingsIn (t .length) ≤ mostClosings
     pub spans : 1 ≤ closingsIn (t .length) → Spans

@@ -23,20 +23,20 @@ module _ (t : Trace) where
   Every20 = (i k : ℕ) → Consecutive i k → t .time k ≤ t .time i + 20
 
   -- a sound sample among the first n calls, at most 100 before the moment
-  pub record SoundWithin100 (n moment : ℕ) : Type 0 where
+  pub record SoundWithin100 (n instant : ℕ) : Type 0 where
     pub sample : ℕ
     pub before : sample < n
     pub accepted : Accepted t sample
     pub sampled : t .sampled sample ≡ true
     pub sound : t .verdict sample .sound ≡ true
-    pub past : t .time sample ≤ moment
-    pub recent : moment ≤ t .time sample + 100
+    pub past : t .time sample ≤ instant
+    pub recent : instant ≤ t .time sample + 100
 
   -- closed only with a sound sample that is at most 100 old
   pub record ClosedIsSound : Type 0 where
     -- at any moment between two consecutive accepted calls of such a board, with n replies told so far
-    pub between-calls : Every20 → (i k n moment : ℕ) → Consecutive i k → i < n → n ≤ k
-        → t .time i ≤ moment → moment ≤ t .time k → t .toldClosed n ≡ true → SoundWithin100 n moment
+    pub between-calls : Every20 → (i k n instant : ℕ) → Consecutive i k → i < n → n ≤ k
+        → t .time i ≤ instant → instant ≤ t .time k → t .toldClosed n ≡ true → SoundWithin100 n instant
     -- at any moment up to 20 after the last accepted call, whether another one follows or not
-    pub after-last : (i n moment : ℕ) → LastAccepted i n
-        → t .time i ≤ moment → moment ≤ t .time i + 20 → t .toldClosed n ≡ true → SoundWithin100 n moment
+    pub after-last : (i n instant : ℕ) → LastAccepted i n
+        → t .time i ≤ instant → instant ≤ t .time i + 20 → t .toldClosed n ≡ true → SoundWithin100 n instant

@@ -43,7 +43,7 @@ inRange s =
     && (limitAllowed (s .limit)
     && (ratedAllowed (s .settings .rated) && (pauseAllowed (s .settings .pause) && timesAllowed s)))
 
--- a controller that the host has altered
+-- refusal 1: wave, limit, rated, pause, a stored time or the closings of the lent controller are out of range
 unfoldable pub altered : Lent → Bool
 altered lent = not (inRange (lent .state) && countAllowed (lent .closings))
 

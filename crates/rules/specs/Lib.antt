@@ -1,4 +1,4 @@
--- The machine of document 01, and what is claimed of every list of calls.
+-- The controller of document 01, and what is claimed of every list of calls.
 pub mod State
 pub mod Calls
 pub mod Begin

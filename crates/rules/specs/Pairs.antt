@@ -15,10 +15,14 @@ pub record Pair : Type 0 where
   pub this : Verdict
   pub previous : Previous
 
--- a sample's verdict: its levels, judged by the ventilation and the wave as the call finds them
+-- the verdict on a window, by its levels, the wave and the ventilation
+unfoldable pub windowVerdict : ℕ → Bool → Evaluation → Verdict
+windowVerdict wave ventilation (levels high low) = verdictOf wave high low ventilation
+windowVerdict wave ventilation (refused number) = noVerdict
+
+-- a sample's verdict: its window, judged by the wave and the ventilation as the call finds them
 unfoldable pub verdict : State → Event Evaluation → Verdict
-verdict s (sample (levels high low)) = verdictOf (s .wave) high low (s .settings .ventilation)
-verdict s (sample (refused number)) = noVerdict
+verdict s (sample window) = windowVerdict (s .wave) (s .settings .ventilation) window
 verdict s (limit current) = noVerdict
 verdict s (measure current) = noVerdict
 verdict s (fault kind) = noVerdict

@@ -21,15 +21,15 @@ abbrev pub windowRefusal : Evaluation → ℕ
 windowRefusal (levels high low) = 0
 windowRefusal (refused number) = number
 
--- fault kinds of a fault call
+-- the kinds of a fault call: 3, 4 and 5
 unfoldable pub kindAllowed : ℕ → Bool
 kindAllowed kind = fromTo 3 5 kind
 
--- the depot's limit
+-- the range of the depot's limit: 0 to 80,000
 unfoldable pub limitAllowed : ℕ → Bool
 limitAllowed current = leb current 80000
 
--- a measured line current
+-- the range of a measure: 0 to 200,000
 unfoldable pub measureAllowed : ℕ → Bool
 measureAllowed current = leb current 200000
 

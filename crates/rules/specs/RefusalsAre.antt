@@ -39,8 +39,8 @@ abbrev pub OnTime : Lent → Call → Type 0
 OnTime lent call = (call .time ≤ largestTime) × (lent .state .last ≤ call .time)
 
 -- nor 1: the arguments are looked at
-abbrev pub Judged : Lent → Call → Type 0
-Judged lent call = OnTime lent call × (Altered lent → ⊥)
+abbrev pub ArgumentsAsked : Lent → Call → Type 0
+ArgumentsAsked lent call = OnTime lent call × (Altered lent → ⊥)
 
 -- the numbers by which each kind of call is refused for its arguments, and what each is for
 abbrev pub WrongFor : ℕ → Event (List ℤ) → Type 0
@@ -57,8 +57,8 @@ pub record RefusedBy (lent : Lent) (call : Call) (number : ℕ) : Type 0 where
   pub three : (number ≡ 3) ↔ (largestTime < call .time)
   pub two : (number ≡ 2) ↔ ((call .time ≤ largestTime) × (call .time < lent .state .last))
   pub one : (number ≡ 1) ↔ (OnTime lent call × Altered lent)
-  pub later : (n : ℕ) → 4 ≤ n → (number ≡ n) ↔ (Judged lent call × WrongFor n (call .event))
-  pub none : (number ≡ 0) ↔ (Judged lent call × ((n : ℕ) → WrongFor n (call .event) → ⊥))
+  pub later : (n : ℕ) → 4 ≤ n → (number ≡ n) ↔ (ArgumentsAsked lent call × WrongFor n (call .event))
+  pub none : (number ≡ 0) ↔ (ArgumentsAsked lent call × ((n : ℕ) → WrongFor n (call .event) → ⊥))
   pub no-other : number ≤ 8
 
 -- what begin is refused for by 1: a rated current, or a pause other than 0, that is out of its range

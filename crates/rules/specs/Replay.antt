@@ -16,6 +16,6 @@ isAccepted s call = eqb (refusal s call) 0
 unfoldable pub step : State → EvaluatedCall → State
 step s call = cond (isAccepted s call) (accept s call) s
 
--- what is kept after a list
+-- the replay of a list: what is kept after it
 unfoldable pub replay : Begin → List Call → State
 replay begin calls = inTurn step (fresh begin) calls

@@ -6,7 +6,7 @@ use Rattle.units.specs.Wave.{driven}
 use Rattle.pilot.specs.Bands.{bandE}
 use Rattle.rules.specs.Lent.{Lent}
 use Rattle.rules.specs.State.{State, Faults, anyFault}
-use Rattle.rules.specs.Step3Wave.{isLetter}
+use Rattle.rules.specs.Step3Wave.{isSettled}
 
 -- the reply: refusal number (0 if accepted), letter, digit, wave, contactor, fault, closings
 pub record Reply : Type 0 where
@@ -18,16 +18,17 @@ pub record Reply : Type 0 where
   pub fault : ℕ
   pub closings : ℕ
 
--- the letters F (a fault) and U (nothing settled), in ASCII
+-- F: a fault is latched; letters are in ASCII
 abbrev pub letterF : ℕ
 letterF = 70
 
+-- U: nothing is settled
 abbrev pub letterU : ℕ
 letterU = 85
 
 -- the letter: F under a fault, and U where nothing is settled
 unfoldable pub letter : Bool → ℕ → ℕ
-letter faulted settled = cond faulted letterF (cond (isLetter settled) settled letterU)
+letter faulted settled = cond faulted letterF (cond (isSettled settled) settled letterU)
 
 -- the letter of a state
 abbrev pub letterOf : State → ℕ

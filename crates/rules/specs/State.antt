@@ -1,8 +1,9 @@
 -- What the replay keeps (document 01, demand 3), and nothing else. Times are in milliseconds, currents in milliamps.
 use mathlib.Core.Bool.{Bool, true, false, _||_, cond}
-use Prim.Native.Nat.{ℕ, _+_}
-use lib.Dec.{leb, ltb}
+use Prim.Native.Nat.{ℕ}
+use Rattle.units.specs.Range.{ago, longerAgo}
 use Rattle.pilot.specs.declared.verdicts.Verdict.{Verdict}
+use Rattle.pilot.specs.Bands.{noBand}
 
 -- a time or a start that is set, or empty; the number of an empty one says nothing
 pub record Moment : Type 0 where
@@ -23,11 +24,11 @@ startedBy time start = cond (start .set) start (setTo time)
 
 -- never so far, or a span ago or longer
 abbrev pub neverOrAgo : ℕ → ℕ → Moment → Bool
-neverOrAgo span time last = cond (last .set) (leb (last .time + span) time) true
+neverOrAgo span time last = cond (last .set) (ago span time (last .time)) true
 
 -- never so far, or longer than a span ago
 abbrev pub neverOrLongerAgo : ℕ → ℕ → Moment → Bool
-neverOrLongerAgo span time last = cond (last .set) (ltb (last .time + span) time) true
+neverOrLongerAgo span time last = cond (last .set) (longerAgo span time (last .time)) true
 
 -- the previous sample with its verdict; none is kept at the start and where it is forgotten
 pub record Previous : Type 0 where
@@ -36,7 +37,7 @@ pub record Previous : Type 0 where
 
 -- the verdict where there is no sample
 abbrev pub noVerdict : Verdict
-noVerdict = record { band = 0; sound = false; proven = false; diodebad = false }
+noVerdict = record { band = noBand; sound = false; proven = false; diodebad = false }
 
 -- the previous sample is forgotten
 abbrev pub forgotten : Previous
@@ -50,7 +51,7 @@ keptSample verdict = record { kept = true; verdict = verdict }
 abbrev pub unsettled : ℕ
 unsettled = 0
 
--- begin's settings, the pause as it is in force
+-- rated current, pause and ventilation; in a state the pause is the one in force
 pub record Settings : Type 0 where
   pub rated : ℕ
   pub pause : ℕ
@@ -84,7 +85,7 @@ pub record State : Type 0 where
   -- the settled state as its letter in ASCII; any number that is none of A to E is taken for U
   pub settled : ℕ
   pub faults : Faults
-  -- the time of the last accepted call
+  -- the time of the last accepted call, or of begin
   pub last : ℕ
   -- the times of the last sound sample and of the last opening
   pub sound : Moment

@@ -66,15 +66,14 @@ abbrev pub overrunJudged : ℕ → ℕ → ℕ → Moment → Moment
 overrunJudged time line allowed overrun = cond (isOver line allowed) (startedBy time overrun) empty
 
 -- a measure is judged where the contactor is closed and the wave driven
-unfoldable pub overrunAt : ℕ → ℕ → State → Moment
-overrunAt time line s =
-    cond (s .closed && driven (s .wave)) (overrunJudged time line (announced (s .wave)) (s .overrun)) (s .overrun)
+unfoldable pub overrunAt : ℕ → ℕ → Bool → ℕ → Moment → Moment
+overrunAt time line closed wave overrun = cond (closed && driven wave) (overrunJudged time line (announced wave) overrun) overrun
 
 -- the over-run: only a measure starts or ends it here
 unfoldable pub overrunBy : ℕ → Event Evaluation → State → Moment
 overrunBy time (sample window) s = s .overrun
 overrunBy time (limit given) s = s .overrun
-overrunBy time (measure line) s = overrunAt time line s
+overrunBy time (measure line) s = overrunAt time line (s .closed) (s .wave) (s .overrun)
 overrunBy time (fault kind) s = s .overrun
 overrunBy time clear s = s .overrun
 overrunBy time tick s = s .overrun

@@ -1,13 +1,13 @@
 -- Step 2 of an accepted call: latches.
 use mathlib.Core.Bool.{Bool, _&&_, _||_, cond}
-use Prim.Native.Nat.{ℕ, _+_}
-use lib.Dec.{leb}
+use Prim.Native.Nat.{ℕ}
+use Rattle.units.specs.Range.{ago}
 use Rattle.rules.specs.Pairs.{Pair, bothDiodeBad}
 use Rattle.rules.specs.State.{State, Moment, Faults, unsettled, forgotten}
 
 -- it runs, and began that long ago or longer
 unfoldable pub ranFor : ℕ → ℕ → Moment → Bool
-ranFor span time start = start .set && leb (start .time + span) time
+ranFor span time start = start .set && ago span time (start .time)
 
 -- fault 2, over-current
 unfoldable pub overCurrent : ℕ → State → Bool
@@ -32,7 +32,7 @@ withLatches diode over faults =
 unfoldable pub latched : ℕ → Pair → State → Faults
 latched time pair s = withLatches (bothDiodeBad pair) (overCurrent time s) (s .faults)
 
--- with the settled state goes the previous sample
+-- step 2: the latches; where the call unsettles, U and no previous sample; the rest stays
 abbrev pub stepLatch : Bool → ℕ → Pair → State → State
 stepLatch faultCall time pair s =
     record {

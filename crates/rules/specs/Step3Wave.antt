@@ -1,4 +1,4 @@
--- Step 3 of an accepted call: the wave, and the stop that follows from it.
+-- Step 3 of an accepted call: the wave, and what follows from it for the over-run and the stop.
 use mathlib.Core.Bool.{Bool, _&&_, _||_, not, cond}
 use Prim.Native.Nat.{ℕ, min}
 use lib.Dec.{eqb, ltb}
@@ -9,12 +9,12 @@ use Rattle.duty.specs.DutyFor.{Sends, duty, refusal, dutyFor}
 use Rattle.rules.specs.State.{State, Moment, anyFault, empty, startedBy}
 
 -- a settled state that is one of A to E
-unfoldable pub isLetter : ℕ → Bool
-isLetter settled = fromTo bandA bandE settled
+unfoldable pub isSettled : ℕ → Bool
+isSettled settled = fromTo bandA bandE settled
 
 -- settled U, A or E
 unfoldable pub isUAE : ℕ → Bool
-isUAE settled = not (isLetter settled) || (eqb settled bandA || eqb settled bandE)
+isUAE settled = not (isSettled settled) || (eqb settled bandA || eqb settled bandE)
 
 -- settled D without ventilation
 unfoldable pub unventilatedD : ℕ → Bool → Bool
@@ -24,11 +24,11 @@ unventilatedD settled ventilation = eqb settled bandD && not ventilation
 unfoldable pub available : State → ℕ
 available s = min (s .settings .rated) (s .limit)
 
--- no duty is sent, though there is no fault
-unfoldable pub heldHigh : ℕ → ℕ → Bool → Bool
-heldHigh current settled ventilation = ltb current 6000 || (isUAE settled || unventilatedD settled ventilation)
+-- wave 1000 unless a fault is latched: less than 6,000 available, or settled U, A or E, or settled D without ventilation
+unfoldable pub noDuty : ℕ → ℕ → Bool → Bool
+noDuty current settled ventilation = ltb current 6000 || (isUAE settled || unventilatedD settled ventilation)
 
--- the duty that is sent; where there is none the wave stays high, which `heldHigh` has ruled out
+-- the duty that is sent; where there is none the wave stays high, which `noDuty` has ruled out
 unfoldable pub sent : Sends → ℕ
 sent (duty d) = d
 sent (refusal number) = steadyHigh
@@ -36,7 +36,7 @@ sent (refusal number) = steadyHigh
 -- the wave, by whether a fault is latched, the available current, the settled state and the ventilation
 abbrev pub waveOf : Bool → ℕ → ℕ → Bool → ℕ
 waveOf faulted current settled ventilation =
-    cond faulted steadyLow (cond (heldHigh current settled ventilation) steadyHigh (sent (dutyFor current)))
+    cond faulted steadyLow (cond (noDuty current settled ventilation) steadyHigh (sent (dutyFor current)))
 
 -- the wave
 unfoldable pub waveFor : State → ℕ

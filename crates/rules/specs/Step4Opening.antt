@@ -14,15 +14,15 @@ cause1 pair = bothUnsound pair
 unfoldable pub cause2 : ℕ → State → Bool
 cause2 time s = neverOrLongerAgo 80 time (s .sound)
 
--- (iii) a state that needs ventilation, where there is none
+-- (iii) settled D without ventilation
 unfoldable pub cause3 : State → Bool
 cause3 s = unventilatedD (s .settled) (s .settings .ventilation)
 
--- (iv) a stop that is 3,000 old
+-- (iv) a stop began 3,000 or more ago
 unfoldable pub cause4 : ℕ → State → Bool
 cause4 time s = ranFor 3000 time (s .stop)
 
--- (v) any fault
+-- (v) a fault is latched
 unfoldable pub cause5 : State → Bool
 cause5 s = anyFault (s .faults)
 
@@ -34,7 +34,7 @@ cause time pair s = cause1 pair || (cause2 time s || (cause3 s || (cause4 time s
 unfoldable pub opens : ℕ → Pair → State → Bool
 opens time pair s = s .closed && cause time pair s
 
--- with the contactor go the over-run, the stop and the previous sample
+-- step 4: an opening stores its time, ends over-run and stop, and forgets the previous sample; the rest stays
 abbrev pub stepOpening : ℕ → Pair → State → State
 stepOpening time pair s =
     record {

@@ -6,13 +6,13 @@ use Rattle.rules.specs.Pairs.{Pair, bothProven}
 use Rattle.rules.specs.State.{State, neverOrAgo}
 
 -- no opening yet, or the pause has passed since the last one
-unfoldable pub rested : ℕ → State → Bool
-rested time s = neverOrAgo (s .settings .pause) time (s .opening)
+unfoldable pub pauseOver : ℕ → State → Bool
+pauseOver time s = neverOrAgo (s .settings .pause) time (s .opening)
 
 -- the closing conditions, all of them: the contactor is open, and this call did not open it; the wave is driven; the call is a
--- sample and makes a proven pair in one band (`bothProven` asks for both); and the contactor has rested
+-- sample and makes a proven pair in one band (`bothProven` asks for both); and the pause is over
 unfoldable pub closes : Bool → ℕ → Pair → State → Bool
-closes opened time pair s = not (s .closed) && (not opened && (driven (s .wave) && (bothProven pair && rested time s)))
+closes opened time pair s = not (s .closed) && (not opened && (driven (s .wave) && (bothProven pair && pauseOver time s)))
 
 -- closings grows by 1
 unfoldable pub closingsBy : Bool → ℕ → ℕ

@@ -52,8 +52,8 @@ Holds (runs begin first entries after) =
     → (asReply begun ≡ first) × (map asReply replies ≡ map (λ entry. entry .reply) entries) × (view final ≡ after))
 
 -- the controller after the starred sequence: opened at 121, sound last at 40
-abbrev pub charged : Lent
-charged =
+abbrev pub afterFirstCharge : Lent
+afterFirstCharge =
     record {
       state = record {
         settings = record { rated = 32000; pause = 3000; ventilation = false };
@@ -79,7 +79,7 @@ firstChargeRun =
     (record { time = 0; rated = 32000; pause = 0; ventilation = false })
     (record { refusal = 0; letter = letterU; digit = 0; wave = 1000; closed = false; fault = 0; closings = 0 })
     (firstCharge .entries)
-    charged
+    afterFirstCharge
 
 -- every row of a list holds
 abbrev pub AllHold : List Row → Type 0
@@ -113,7 +113,7 @@ replies-computed : repliesTo (at32A 0) calls ≡ map (λ entry. entry .reply) (f
 unfolding inTurn
 replies-computed = first-charge
 
-final-computed : lentAfter (at32A 0) calls ≡ charged
+final-computed : lentAfter (at32A 0) calls ≡ afterFirstCharge
 unfolding computed
 final-computed = lent-on (at32A 0) (map (λ entry. entry .call) (firstCharge .entries)) refl
 

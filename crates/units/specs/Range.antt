@@ -1,8 +1,8 @@
--- Ranges of levels and of duties.
+-- Ranges of levels and of other numbers, and spans of time.
 use mathlib.Core.Bool.{Bool, _&&_, cond}
 use mathlib.Core.Logic.{_⊎_}
-use Prim.Native.Nat.{ℕ, _<_}
-use lib.Dec.{leb}
+use Prim.Native.Nat.{ℕ, _+_, _<_}
+use lib.Dec.{leb, ltb}
 use lib.IntN.{ℤ}
 use lib.Signed.{leZ, ltZ}
 
@@ -22,9 +22,18 @@ fromTo from to n = leb from n && leb n to
 abbrev pub Outside : ℕ → ℕ → ℕ → Type 0
 Outside from to n = (n < from) ⊎ (to < n)
 
--- the higher and the lower of two levels
+-- at a time, something lies a span ago or longer
+abbrev pub ago : ℕ → ℕ → ℕ → Bool
+ago span time start = leb (start + span) time
+
+-- at a time, something lies longer than a span ago
+abbrev pub longerAgo : ℕ → ℕ → ℕ → Bool
+longerAgo span time start = ltb (start + span) time
+
+-- the higher of two levels
 unfoldable pub higher : ℤ → ℤ → ℤ
 higher a b = cond (leZ b a) a b
 
+-- the lower of two levels
 unfoldable pub lower : ℤ → ℤ → ℤ
 lower a b = cond (leZ a b) a b

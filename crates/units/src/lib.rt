@@ -4,10 +4,10 @@ pub mod conditions; // conditions.rt: conditions put together
 
 ghost use mathlib.Core.Path.{_≡_};
 ghost use mathlib.Core.Bool.{cond};
-ghost use Prim.Native.Nat.{_+_, min};
+ghost use Prim.Native.Nat.{min};
 ghost use lib.Dec.{leb, ltb};
 ghost use lib.Signed.{leZ, ltZ};
-ghost use Rattle.units.specs.Range.{within, strictlyBetween, higher, lower};
+ghost use Rattle.units.specs.Range.{within, strictlyBetween, ago, longerAgo, higher, lower};
 ghost use Rattle.units.specs.Wave.{driven};
 
 // A level of the control pilot, in millivolts.
@@ -103,7 +103,7 @@ impl Millis {
 
     // At `time`, this time lies `span` or more ago. Total: no sum is made that could overflow.
     pub fn at_least_ago(self, span: Millis, time: Millis) -> bool
-        ensures { λ r. ⌜ r ≡ leb (self .0 + span .0) (time .0) ⌝ }
+        ensures { λ r. ⌜ r ≡ ago (span .0) (time .0) (self .0) ⌝ }
     {
         if time.0 < self.0 {
             return false;
@@ -113,7 +113,7 @@ impl Millis {
 
     // At `time`, this time lies more than `span` ago.
     pub fn more_than_ago(self, span: Millis, time: Millis) -> bool
-        ensures { λ r. ⌜ r ≡ ltb (self .0 + span .0) (time .0) ⌝ }
+        ensures { λ r. ⌜ r ≡ longerAgo (span .0) (time .0) (self .0) ⌝ }
     {
         if time.0 < self.0 {
             return false;

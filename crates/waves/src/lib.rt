@@ -12,14 +12,14 @@ ghost use lib.Dec.{eqb};
 ghost use Rattle.units.specs.Wave.{steadyLow, steadyHigh};
 ghost use Rattle.duty.specs.Answers.{asSends};
 ghost use Rattle.duty.specs.DutyFor.{dutyFor};
-ghost use Rattle.rules.specs.Step3Wave.{isUAE, unventilatedD, heldHigh, sent, waveOf, overrunUnder, stopUnder};
+ghost use Rattle.rules.specs.Step3Wave.{isUAE, unventilatedD, noDuty, sent, waveOf, overrunUnder, stopUnder};
 ghost use Rattle.parts.specs.Views.{asMoment};
 
 // Settled U, A or E.
 fn is_u_a_or_e(settled: u8) -> bool
     ensures { λ r. ⌜ r ≡ isUAE settled ⌝ }
 {
-    let letter = samples::is_letter(settled);
+    let letter = samples::is_settled(settled);
     let a = settled == b'A';
     let e = settled == b'E';
     conditions::any_of(!letter, a, e)
@@ -34,13 +34,13 @@ pub fn unventilated_d(settled: u8, ventilation: bool) -> bool
 }
 
 // No duty is sent, though there is no fault.
-fn held_high(available: Milliamps, settled: u8, ventilation: bool) -> bool
-    ensures { λ r. ⌜ r ≡ heldHigh (available .0) settled ventilation ⌝ }
+fn no_duty(available: Milliamps, settled: u8, ventilation: bool) -> bool
+    ensures { λ r. ⌜ r ≡ noDuty (available .0) settled ventilation ⌝ }
 {
     let too_low = available.below(Milliamps(6000));
-    let idle = is_u_a_or_e(settled);
+    let u_a_or_e = is_u_a_or_e(settled);
     let unventilated = unventilated_d(settled, ventilation);
-    conditions::any_of(too_low, idle, unventilated)
+    conditions::any_of(too_low, u_a_or_e, unventilated)
 }
 
 // The duty that is sent; where there is none the wave stays high.
@@ -76,7 +76,7 @@ fn wave_by(faulted: bool, high: bool, duty: u32) -> u32
 pub fn wave_for(faulted: bool, available: Milliamps, settled: u8, ventilation: bool) -> u32
     ensures { λ r. ⌜ r ≡ waveOf faulted (available .0) settled ventilation ⌝ }
 {
-    let high = held_high(available, settled, ventilation);
+    let high = no_duty(available, settled, ventilation);
     let duty = sent_for(available);
     wave_by(faulted, high, duty)
 }

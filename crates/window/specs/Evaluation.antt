@@ -12,11 +12,11 @@ pub data Evaluation : Type 0 where
   levels : ℤ → ℤ → Evaluation
   refused : ℕ → Evaluation
 
--- the window's length
+-- the range of a window's length: 256 to 1,024
 unfoldable pub lengthAllowed : List ℤ → Bool
 lengthAllowed window = fromTo 256 1024 (length window)
 
--- the range of a reading
+-- the range of a reading: -15,000 to 15,000
 abbrev pub readingAllowed : ℤ → Bool
 readingAllowed reading = within (negℤ (pos 15000)) (pos 15000) reading
 

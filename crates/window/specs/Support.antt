@@ -6,7 +6,7 @@ use lib.Dec.{leb}
 use lib.IntN.{ℤ, _-ℤ_, natAbs}
 use lib.ListN.{length}
 
--- two readings near one another
+-- two readings that differ by at most 200 mV
 unfoldable pub near : ℤ → ℤ → Bool
 near a b = leb (natAbs (a -ℤ b)) 200
 
@@ -17,7 +17,7 @@ supporters reading (other ∷ others) =
     let rest = supporters reading others in
     cond (near reading other) (suc rest) rest
 
--- how many supporters a reading needs in a window of n readings
+-- how many supporters a reading needs in a window of n readings: 8, for every n
 unfoldable pub needed : ℕ → ℕ
 needed n = 8
 

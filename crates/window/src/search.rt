@@ -63,8 +63,8 @@ pub fn levels(window: &[i32]) -> Evaluated
     let mut found = Found::Nothing;
     for i in 0..n {
         let level = reading(window, i);
-        let settled = inside(found, level);
-        if settled {
+        let within_found = inside(found, level);
+        if within_found {
             continue;
         }
         let mut count: usize = 0;

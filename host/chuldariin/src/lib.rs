@@ -118,7 +118,8 @@ impl Post {
         reply::accepted(reply)
     }
 
-    /// A window of 256 to 1,024 readings of the pilot line, in millivolts.
+    /// A window of 256 to 1,024 readings of the pilot line, in millivolts. All of them come after the
+    /// wave that was last commanded, and none is in another window (README, "What the host owes").
     pub fn sample(&mut self, time: Millis, readings: &[i32]) -> Result<Reply, Refusal> {
         // SAFETY: as above, and a slice's pointer and length are what the archive asks of a window.
         let reply = unsafe {

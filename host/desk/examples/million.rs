@@ -1,7 +1,8 @@
 //! Writes a long log to standard output, to measure a replay with:
 //!
-//!     cargo run --release --example million > million.log         a million calls
-//!     cargo run --release --example million 10000 > long.log      so many
+//!     cargo run --release --manifest-path host/Cargo.toml -p chuldariin-desk --example million > million.log
+//!
+//! A million calls; a number behind `million` asks for so many.
 
 use std::io::{self, BufWriter, Write};
 

@@ -1,7 +1,7 @@
 //! The logs of examples/: what their replay shows, and their pictures.
 //!
 //! `examples/replayed/NAME.txt` is the replay of NAME.log, of a long log only the changes, and NAME.svg its picture. To write them anew:
-//! `CHULDARIIN_WRITE=1 cargo test --release -p chuldariin-desk --test examples`, and look at the difference.
+//! `CHULDARIIN_WRITE=1 cargo test --release --manifest-path host/Cargo.toml -p chuldariin-desk --test examples`, and look at the difference.
 
 use chuldariin_desk::input::Log;
 use chuldariin_desk::paint::Paint;

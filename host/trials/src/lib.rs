@@ -5,8 +5,9 @@
 //! ends its list; the list is shrunk and printed in a form that can be replayed:
 //!
 //! ```text
-//! cargo test --release -- --nocapture                  all trials, with the tables of what occurred
-//! cargo run --release --example replay < list.txt      one list, call by call
+//! cd host
+//! cargo test --release -p chuldariin-trials -- --nocapture                 all trials, with the tables of what occurred
+//! cargo run --release -p chuldariin-trials --example replay < list.txt     one list, call by call
 //! ```
 //!
 //! A build that is not a release build takes minutes, as the model counts the

@@ -1,4 +1,4 @@
--- It is the controller's own begin.
+-- It is `begin_with` (src/begun.rt).
 use Rattle.calls.proofs.begin.Statement.{statement}
 use Rattle.calls.proofs.begin.Tie as tie
 

@@ -1,4 +1,4 @@
--- It is the answer to a sample with the window's own evaluate.
+-- It is the answer to a sample with its window evaluated.
 use mathlib.Core.Path.{_∙_}
 use Rattle.rules.specs.Calls.{evaluated}
 use Rattle.calls.proofs.sample.Statement.{statement}

@@ -9,7 +9,8 @@ use Rattle.events.proofs.overrun_by.Tie as tie
 returns-3 : tie.Need-returns-3
 unfolding overrunBy
 returns-3 c s closed wave overrun =
-    c .measured .ensures s closed wave overrun
+    c .measured .ensures
+    ∙ (rw (closed, wave, overrun))
     ∙ sym (ap (λ event. overrunBy (c .before .before .before .before .args .time .0) (asEvent event) s) (c .before .before .event .given .1))
 
 pub overrun-by-spec : {M : Type 1} → statement M

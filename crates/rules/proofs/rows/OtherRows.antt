@@ -318,8 +318,8 @@ limitBack =
     }
 
 -- a controller that no list leads to, in range: contactor, settled state, faults, last sound sample and previous sample as given
-abbrev pub unreached : Bool → ℕ → Faults → Moment → Previous → Lent
-unreached closed settled faults sound previous =
+abbrev pub unreachedBySample : Bool → ℕ → Faults → Moment → Previous → Lent
+unreachedBySample closed settled faults sound previous =
     record {
       state = record {
         settings = record { rated = 80000; pause = 3000; ventilation = false };
@@ -342,7 +342,7 @@ unreached closed settled faults sound previous =
 abbrev pub noPartner : Sequence
 noPartner =
     record {
-      start = unreached false bandB noFaults empty (record { kept = false; verdict = record { band = bandC; sound = true; proven = true; diodebad = false } });
+      start = unreachedBySample false bandB noFaults empty (record { kept = false; verdict = record { band = bandC; sound = true; proven = true; diodebad = false } });
       first = [];
       entries = row 110 (drivenAt 6000) 0 bandB 2 960 false 0 7 ∷ row 120 (drivenAt 6000) 0 bandC 2 960 true 0 8 ∷ [];
     }
@@ -351,20 +351,20 @@ noPartner =
 abbrev pub noPartnerDiode : Sequence
 noPartnerDiode =
     record {
-      start = unreached false bandC noFaults empty (record { kept = false; verdict = record { band = bandC; sound = false; proven = false; diodebad = true } });
+      start = unreachedBySample false bandC noFaults empty (record { kept = false; verdict = record { band = bandC; sound = false; proven = false; diodebad = true } });
       first = [];
       entries = row 110 (steadyAt 6000) 0 bandC 2 960 false 0 7 ∷ row 120 (steadyAt 6000) 0 letterF 0 0 false 1 7 ∷ [];
     }
 
 -- closed without a sound sample so far
 abbrev pub neverSound : Sequence
-neverSound = record { start = unreached true bandC noFaults empty forgotten; first = []; entries = row 110 tick 0 bandC 2 960 false 0 7 ∷ [] }
+neverSound = record { start = unreachedBySample true bandC noFaults empty forgotten; first = []; entries = row 110 tick 0 bandC 2 960 false 0 7 ∷ [] }
 
 -- a kept letter that is none of A to E, here F, acts as U and is shown as U. The letters are in ASCII: F is 70 and U is 85
 abbrev pub noLetter : Sequence
 noLetter =
     record {
-      start = unreached false 70 noFaults empty forgotten;
+      start = unreachedBySample false 70 noFaults empty forgotten;
       first = [];
       entries = row 110 tick 0 85 0 1000 false 0 7 ∷ row 120 (fault 3) 0 70 0 0 false 3 7 ∷ [];
     }

@@ -27,8 +27,8 @@ near-itself x = ap (λ d. leb (natAbs d) 200) (+ℤ-invr x)
 
 all-of : (n : ℕ) (x : ℤ) (rest : List ℤ) → readingAllowed x ≡ true → allAllowed rest ≡ true → allAllowed (replicate n x ++ rest) ≡ true
 unfolding allAllowed
-all-of zero x rest right rests = rests
-all-of (suc n) x rest right rests = rw right (all-of n x rest right rests)
+all-of zero x rest right pauses = pauses
+all-of (suc n) x rest right pauses = rw right (all-of n x rest right pauses)
 
 -- a run of one reading supports it, and takes nothing from another
 supporters-run : (n : ℕ) (x : ℤ) (rest : List ℤ) → n ≤ supporters x (replicate n x ++ rest)

@@ -41,8 +41,8 @@ FaultsRow =
     ≡ record { diode = false; overcurrent = false; residual = true; welded = true; temperature = true }
 
 -- a controller that no list leads to, in range: wave, contactor, faults and stop as given
-abbrev pub unreached : ℕ → Bool → Faults → Moment → Lent
-unreached wave closed faults stop =
+abbrev pub unreachedByWave : ℕ → Bool → Faults → Moment → Lent
+unreachedByWave wave closed faults stop =
     record {
       state = record {
         settings = record { rated = 80000; pause = 3000; ventilation = false };
@@ -63,14 +63,14 @@ unreached wave closed faults stop =
 
 -- a measure is judged by the wave as the call finds it: a steady one starts no over-run, though step 3 then drives it
 abbrev pub SteadyRow : Type 0
-SteadyRow = lentAfter (unreached 1000 true noFaults empty) (map callOf (call 110 (measure 200000) ∷ [])) .state .overrun ≡ empty
+SteadyRow = lentAfter (unreachedByWave 1000 true noFaults empty) (map callOf (call 110 (measure 200000) ∷ [])) .state .overrun ≡ empty
 
 -- a wave of 0 neither starts nor ends a stop
 abbrev pub residual : Faults
 residual = record { diode = false; overcurrent = false; residual = true; welded = false; temperature = false }
 
 abbrev pub StopRow : Type 0
-StopRow = lentAfter (unreached 0 false residual (setTo 50)) (map callOf (call 110 tick ∷ [])) .state .stop ≡ setTo 50
+StopRow = lentAfter (unreachedByWave 0 false residual (setTo 50)) (map callOf (call 110 tick ∷ [])) .state .stop ≡ setTo 50
 
 pub fresh-row : FreshRow
 unfolding pauseFor fresh
@@ -82,8 +82,8 @@ faults-row = ap (λ l. l .state .faults) (lent-on (at80A 0) faultCalls refl)
 
 pub steady-row : SteadyRow
 unfolding computed
-steady-row = ap (λ l. l .state .overrun) (lent-on (unreached 1000 true noFaults empty) (call 110 (measure 200000) ∷ []) refl)
+steady-row = ap (λ l. l .state .overrun) (lent-on (unreachedByWave 1000 true noFaults empty) (call 110 (measure 200000) ∷ []) refl)
 
 pub stop-row : StopRow
 unfolding computed
-stop-row = ap (λ l. l .state .stop) (lent-on (unreached 0 false residual (setTo 50)) (call 110 tick ∷ []) refl)
+stop-row = ap (λ l. l .state .stop) (lent-on (unreachedByWave 0 false residual (setTo 50)) (call 110 tick ∷ []) refl)

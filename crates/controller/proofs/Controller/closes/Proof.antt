@@ -1,11 +1,11 @@
 -- What the calls ensure, put together, is the definition.
 use mathlib.Core.Path.{_∙_}
-use Rattle.rules.specs.Step5Closing.{closes, rested}
+use Rattle.rules.specs.Step5Closing.{closes, pauseOver}
 use Rattle.controller.proofs.Controller.closes.Statement.{statement}
 use Rattle.controller.proofs.Controller.closes.Tie as tie
 
 returns : tie.Need-returns
-unfolding closes rested
+unfolding closes pauseOver
 returns c =
     c .all2 .ensures ∙ rw (c .before .before .all .ensures, c .before .before .before .none-or-at-least-ago .ensures, c .before .before .before .before .both-proven .ensures, c .before .before .before .before .before .driven .ensures)
 

@@ -6,7 +6,7 @@ use Prim.Native.Nat.{ℕ, zero, suc, _+_, _≤_, _<_}
 use native.Mathlib.Decide.{decLt}
 use native.Mathlib.Nat.{not-suc-le-zero}
 use native.Mathlib.Omega.{arith}
-use Rattle.rules.specs.Claim.{Trace, Closing, Proves, Rested}
+use Rattle.rules.specs.Claim.{Trace, Closing, Proves, PausedBetween}
 use Rattle.rules.specs.State.{setTo}
 use Rattle.rules.proofs.Booleans.{clash}
 use Rattle.rules.proofs.Lawful.{Memory, Lawful, Outcome, refused, stays, shuts, opens, outcome}
@@ -67,12 +67,12 @@ module _ (t : Trace) (memory : Memory) (laws : Lawful t memory) where
       let meets = closing-meets t memory laws k second .1 in
       let set = ap (λ m. m .set) (known .stored) in
       let time = ap (λ m. m .time) (known .stored) in
-      rw time at (meets .rested set)
+      rw time at (meets .pauseOver set)
 
-  pub rests : (i j k : ℕ) → i < k → Closing t i → Closing t k → Proves t j k → Rested t i j k
-  rests i j k after first second pair = rest (between i k after first second) (partner t memory laws k second)
+  pub pauses : (i j k : ℕ) → i < k → Closing t i → Closing t k → Proves t j k → PausedBetween t i j k
+  pauses i j k after first second pair = rest (between i k after first second) (partner t memory laws k second)
     where
-      rest : ((o : ℕ) × LastOpening i o k) → ((p : ℕ) × Remembered t memory laws p k) → Rested t i j k
+      rest : ((o : ℕ) × LastOpening i o k) → ((p : ℕ) × Remembered t memory laws p k) → PausedBetween t i j k
       rest last sample =
           let o = last .0 in
           let known = last .1 in

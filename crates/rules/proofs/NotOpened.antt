@@ -63,9 +63,9 @@ module _ (s : State) (call : EvaluatedCall) (wave : driven (accept s call .wave)
       let none = no-stop-driven (call .time) (accept s call .wave) (s .closed) (s .stop) wave in
       clash e (ap (λ m. ranFor 3000 (call .time) m) none)
 
-  pub opens-apart : opensAt s call ≡ true → ⊥
+  pub proven-not-opened : opensAt s call ≡ true → ⊥
   unfolding opens cause cause1 cause3 cause5
-  opens-apart e =
+  proven-not-opened e =
       go (bothUnsound (pairAt s call)) (cause2 (call .time) (afterWave s call)) (unventilatedD (afterWave s call .settled) (afterWave s call .settings .ventilation))
       (cause4 (call .time) (afterWave s call)) (anyFault (accept s call .faults)) refl refl refl refl refl
       (and-parts (s .closed) (causeAt s call) e .1)
