@@ -1,62 +1,38 @@
 // Windows of readings to evaluate.
+use crate::text;
+use crate::text::Token;
 
-// Puts one level at the first `count` places of the window.
-pub fn put(window: &mut [i32], count: usize, level: i32) {
+// Puts one level at a place and at every later one.
+fn put(window: &mut [i32], from: usize, level: i32) {
     let mut i = 0;
     while i < window.len() {
-        if i < count {
+        if from <= i {
             window[i] = level;
         }
         i += 1;
     }
 }
 
-// 37 levels that lie 800 mV apart.
-const LEVELS: [i32; 37] = [
-    -14400,
-    -13600,
-    -12800,
-    -12000,
-    -11200,
-    -10400,
-    -9600,
-    -8800,
-    -8000,
-    -7200,
-    -6400,
-    -5600,
-    -4800,
-    -4000,
-    -3200,
-    -2400,
-    -1600,
-    -800,
-    0,
-    800,
-    1600,
-    2400,
-    3200,
-    4000,
-    4800,
-    5600,
-    6400,
-    7200,
-    8000,
-    8800,
-    9600,
-    10400,
-    11200,
-    12000,
-    12800,
-    13600,
-    14400,
-];
+// Puts the readings behind a token of the line, up to 40 runs of them. It answers the last token, with how many readings there are.
+pub fn put_all(window: &mut [i32], line: &[u8], before: Token) -> Token {
+    let mut t = before;
+    let mut n = 0;
+    let mut k: usize = 0;
+    while k < 40 {
+        t = text::next(line, t);
+        put(window, n, text::level(t.value));
+        n += t.readings % 1000000;
+        k += 1;
+    }
+    t.readings = n;
+    t
+}
 
-// Readings in groups of 7, as far as the levels go, so that no reading has an eighth supporter.
-pub fn groups_of_seven(window: &mut [i32]) {
-    let mut groups = 37;
-    while 0 < groups {
-        groups -= 1;
-        put(window, 7 * groups + 7, LEVELS[groups]);
+// The first n, or all of them.
+pub fn first(window: &[i32], n: usize) -> &[i32] {
+    if n <= window.len() {
+        &window[0..n]
+    } else {
+        window
     }
 }

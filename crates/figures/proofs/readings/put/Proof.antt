@@ -8,10 +8,10 @@ use Rattle.figures.proofs.readings.put.Statement.{statement}
 use Rattle.figures.proofs.readings.put.Tie as tie
 
 abbrev As-long : tie.InvT-loop
-As-long window₀ count level i₀ window i = (length window ≡ length window₀) × (i ≤ length window)
+As-long window₀ from level i₀ window i = (length window ≡ length window₀) × (i ≤ length window)
 
 abbrev left : tie.MeasureT-loop
-left window₀ count level i₀ window i = length window₀ - i
+left window₀ from level i₀ window i = length window₀ - i
 
 -- one turn
 turn : (c : tie.Joined1 As-long left) → length (c .if1 .window) ≡ length (c .before .before .loop .window)
