@@ -50,23 +50,6 @@ fn model_duty(current: u32) -> raw::DutyReply {
 }
 
 #[test]
-fn duties_of_the_bench_rows_on_both_sides() {
-    for (current, duty) in [
-        (6_000, 100),
-        (6_059, 100),
-        (6_060, 101),
-        (32_000, 533),
-        (51_000, 850),
-        (52_749, 850),
-        (52_750, 851),
-        (80_000, 960),
-    ] {
-        assert_eq!(archive_duty(current).duty, duty, "archive: {current}");
-        assert_eq!(duty_for(current), Ok(duty), "model: {current}");
-    }
-}
-
-#[test]
 fn every_duty_reads_as_in_the_model() {
     let mut tally = Tally::default();
     for duty in (0..=1_100).chain(EXTREMES) {
