@@ -151,7 +151,7 @@ struct chuldariin_previous {
 };
 
 struct chuldariin_controller {
-    struct chuldariin_settings settings; /* what begin was given, with pause 0 as 3,000 */
+    struct chuldariin_settings settings; /* what begin was given, with pause 0 as 10,000 */
     uint32_t limit;                      /* the depot's limit, mA */
     uint32_t wave;                       /* the wave command, tenths of a percent */
     bool closed;                         /* the contactor command */
@@ -220,7 +220,7 @@ CHULDARIIN_ASSERT(sizeof(struct chuldariin_duty_reply) == 8);
 
 /* Starts afresh: nothing settled, wave 1000, contactor open, no fault, closings 0, and no pause to
  * wait for. So it opens a closed contactor, and drops what was latched. The limit is 0: nothing
- * charges before a limit call. rated: 6,000 to 80,000 mA. pause: 1,000 to 60,000 ms, or 0 for 3,000.
+ * charges before a limit call. rated: 6,000 to 80,000 mA. pause: 1,000 to 60,000 ms, or 0 for 10,000.
  * Refused: 3, 1. */
 struct chuldariin_reply chuldariin_begin(struct chuldariin_controller *c, uint64_t time, uint32_t rated,
                                          uint64_t pause, bool ventilation);

@@ -43,10 +43,10 @@ static bool same(const controller *a, const controller *b) {
            && memcmp(&a->previous, &b->previous, sizeof a->previous) == 0 && a->closings == b->closings;
 }
 
-/* A ready van with a sound diode; the contactor closes at 40. */
-static controller charging(void) {
+/* A ready van with a sound diode; the contactor closes at 40. pause: as begin is given it. */
+static controller charging_with(uint64_t pause) {
     controller c = {0};
-    EXPECT(says(chuldariin_begin(&c, 0, 32000, 0, false), 'U', 0, 1000, false, 0, 0));
+    EXPECT(says(chuldariin_begin(&c, 0, 32000, pause, false), 'U', 0, 1000, false, 0, 0));
     EXPECT(says(chuldariin_limit(&c, 0, 32000), 'U', 0, 1000, false, 0, 0));
     EXPECT(says(sample(&c, 10, 9000, 9000), 'U', 0, 1000, false, 0, 0));
     EXPECT(says(sample(&c, 20, 9000, 9000), 'B', 2, 533, false, 0, 0));
@@ -54,6 +54,8 @@ static controller charging(void) {
     EXPECT(says(sample(&c, 40, 6000, -12000), 'C', 2, 533, true, 0, 1));
     return c;
 }
+
+static controller charging(void) { return charging_with(0); }
 
 static void silent_for_81(void) {
     controller c = charging();
@@ -63,14 +65,16 @@ static void silent_for_81(void) {
     EXPECT(c.opening.set && c.opening.time == 121 && !c.previous.kept);
 }
 
-static void closes_again_after_the_pause(void) {
-    controller c = charging();
+/* Opened at 60, with the van ready again at once. */
+static void closes_again_at(uint64_t closing, uint64_t pause) {
+    controller c = charging_with(pause);
+    EXPECT(c.settings.pause == closing - 60);
     EXPECT(says(sample(&c, 50, 9000, -12000), 'C', 2, 533, true, 0, 1));
     EXPECT(says(sample(&c, 60, 9000, -12000), 'B', 2, 533, false, 0, 1));
     reply r = {0};
-    for (uint64_t t = 70; t <= 3060; t += 10) {
+    for (uint64_t t = 70; t <= closing; t += 10) {
         r = sample(&c, t, 6000, -12000);
-        EXPECT(r.closed == (t == 3060));
+        EXPECT(r.closed == (t == closing));
     }
     EXPECT(says(r, 'C', 2, 533, true, 0, 2));
 }
@@ -156,7 +160,8 @@ static void duties(void) {
 
 int main(void) {
     silent_for_81();
-    closes_again_after_the_pause();
+    closes_again_at(3060, 3000);
+    closes_again_at(10060, 0);
     opens_after_three_seconds();
     over_current_and_clear();
     each_refusal();

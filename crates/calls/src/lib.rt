@@ -20,7 +20,7 @@ pub struct Answer {
     pub reply: Reply,
 }
 
-// Starts afresh with these settings; a pause of 0 stands for 3,000 ms. Refused, it hands back the lent controller, and a reply with
+// Starts afresh with these settings; a pause of 0 stands for 10,000 ms. Refused, it hands back the lent controller, and a reply with
 // zeros beside the number.
 pub fn begin(c: Controller, time: u64, rated: u32, pause: u64, ventilation: bool) -> Answer
     ensures { λ r. ⌜ Begins (record { time = time; rated = rated; pause = pause; ventilation = ventilation }) c (r .reply) (r .controller) ⌝ }

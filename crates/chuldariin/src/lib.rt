@@ -6,7 +6,7 @@ ghost use Rattle.chuldariin.specs.Lent.{AnswersLent, BeginsLent};
 
 pub mod duties; // duties.rt: duty and current, without a controller
 
-// Starts afresh with these settings; a pause of 0 stands for 3,000 ms. Refused, it leaves the lent controller as it is, and the
+// Starts afresh with these settings; a pause of 0 stands for 10,000 ms. Refused, it leaves the lent controller as it is, and the
 // reply has zeros beside the number.
 #[no_mangle]
 pub extern "C" fn chuldariin_begin(

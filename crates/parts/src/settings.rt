@@ -11,7 +11,7 @@ ghost use Rattle.parts.specs.Views.{asSettings};
 #[repr(C)]
 pub struct Settings {
     pub rated: Milliamps,
-    // In a controller, as it is in force; as given to begin, 0 asks for 3,000.
+    // In a controller, as it is in force; as given to begin, 0 asks for 10,000.
     pub pause: Millis,
     pub ventilation: bool,
 }
@@ -40,12 +40,12 @@ pub fn asks_default(pause: Millis) -> bool
     pause.0 == 0
 }
 
-// The pause in force: 0 means 3,000.
+// The pause in force: 0 means 10,000.
 fn pause_for(pause: Millis) -> Millis
     ensures { λ r. ⌜ r .0 ≡ pauseFor (pause .0) ⌝ }
 {
     let default = asks_default(pause);
-    moments::pick_time(default, Millis(3000), pause)
+    moments::pick_time(default, Millis(10000), pause)
 }
 
 // The settings with the pause in force.

@@ -21,9 +21,9 @@ largestTime = 1000000000000
 abbrev pub tooLate : ℕ → Bool
 tooLate time = ltb largestTime time
 
--- what the pause 0 means
+-- what the pause 0 means (document 02, a)
 abbrev pub defaultPause : ℕ
-defaultPause = 3000
+defaultPause = 10000
 
 -- the range of the rated current
 unfoldable pub ratedAllowed : ℕ → Bool

@@ -56,7 +56,7 @@ abbrev pub afterFirstCharge : Lent
 afterFirstCharge =
     record {
       state = record {
-        settings = record { rated = 32000; pause = 3000; ventilation = false };
+        settings = record { rated = 32000; pause = 10000; ventilation = false };
         limit = 32000;
         wave = 533;
         closed = false;

@@ -75,7 +75,7 @@ pub struct Begin {
     pub time: Millis,
     /// Rated current of the post, 6,000 to 80,000 mA.
     pub rated: Milliamps,
-    /// Least time between an opening and the next closing, 1,000 to 60,000 ms; 0 for 3,000.
+    /// Least time between an opening and the next closing, 1,000 to 60,000 ms; 0 for 10,000.
     pub pause: Millis,
     /// Whether the post has ventilation.
     pub ventilation: bool,

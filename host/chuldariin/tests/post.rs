@@ -1,4 +1,4 @@
-//! The wrapper over the archive: the refusals of the calls by name, and a controller that they leave alone; a fault and its end.
+//! The wrapper over the archive: the refusals of the calls by name, and a controller that they leave alone; the stored pause; a fault and its end.
 use chuldariin::{Begin, Fault, Milliamps, Millis, Post, Refusal, Reply};
 
 const BEGIN: Begin = Begin {
@@ -29,6 +29,15 @@ fn charging() -> Post {
     }
     assert!(post.controller().closed);
     post
+}
+
+#[test]
+fn the_pause_that_is_stored() {
+    for (given, stored) in [(0, 10_000), (3_000, 3_000)] {
+        let pause = Millis(given);
+        let (post, _) = Post::begin(Begin { pause, ..BEGIN }).expect("a pause in range");
+        assert_eq!(post.controller().settings.pause, stored);
+    }
 }
 
 /// A call that is refused.

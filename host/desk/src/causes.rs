@@ -50,7 +50,11 @@ fn note(kind: Kind, words: String) -> Note {
 fn begun(turn: &Turn) -> Vec<Note> {
     let ventilation = if turn.after.ventilation { "with" } else { "no" };
     let pause = grouped(turn.after.pause);
-    let words = format!("a new list begins: pause {pause} ms, {ventilation} ventilation");
+    let given = match turn.call {
+        Call::Begin(begin) if begin.pause == 0 => " (given as 0)",
+        _ => "",
+    };
+    let words = format!("a new list begins: pause {pause} ms{given}, {ventilation} ventilation");
     let mut notes = vec![note(Kind::Event, words)];
     if turn.begun_while_closed() {
         notes.insert(

@@ -348,7 +348,7 @@ fn a_begin_starts_afresh() {
     let shown = text(&replay(log.as_bytes()).stdout);
     assert!(
         shown.contains(
-            "<< OPENED: by the new begin; a new list begins: pause 3,000 ms, with ventilation\n"
+            "<< OPENED: by the new begin; a new list begins: pause 10,000 ms (given as 0), with ventilation\n"
         ),
         "{shown}"
     );

@@ -5,8 +5,8 @@ use crate::steps::{run, Conditions};
 use crate::table::{check, refusal_of_begin};
 use crate::window::{levels, Evaluated};
 
-/// What begin's pause 0 means, ms.
-const USUAL_PAUSE: u64 = 3_000;
+/// What begin's pause 0 means and is stored as, ms (document 02, request a).
+const USUAL_PAUSE: u64 = 10_000;
 
 /// Arguments of begin.
 #[derive(Clone, Copy, Debug, PartialEq, Eq)]

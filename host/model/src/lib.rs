@@ -1,8 +1,9 @@
 //! What the controller of a charging post should do, as plain Rust.
 //!
-//! It was made from document 01, the paper that states the rules, without sight
-//! of the controller that it is held against, call by call. Its interface and
-//! readings 1, 3 and 5 below were given. It is slow and obvious on purpose.
+//! It was made from document 01, the paper that states the rules, and request a
+//! of document 02, by which pause 0 means 10,000, without sight of the controller
+//! that it is held against, call by call. Its interface and readings 1, 3 and 5
+//! below were given. It is slow and obvious on purpose.
 //!
 //! | File | What it holds |
 //! |---|---|
@@ -23,7 +24,7 @@
 //! Table of refusals
 //! 1. A wave in range is 0, 100 to 960 or 1000; anything else is refusal 1.
 //! 2. A stored pause in range is 1,000 to 60,000. A stored 0 is refusal 1, as
-//!    only begin's argument may be 0.
+//!    only begin's argument may be 0. The pause in force is the stored one.
 //! 3. The stored times are last sound sample, last opening, start of over-run
 //!    and start of stop. An absent one is no time; one equal to the last
 //!    accepted time is in order.

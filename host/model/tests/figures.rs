@@ -1,4 +1,6 @@
 //! The paper's bench figures, field faults and refusals.
+//!
+//! Begin's pause is 0 unless a test hangs on the pause; such a test names its own.
 
 use chuldariin_model::*;
 
@@ -22,12 +24,12 @@ struct Post {
 }
 
 impl Post {
-    fn begin(ventilation: bool) -> Post {
+    fn begin(pause: u64) -> Post {
         let (state, reply) = begin(&Begin {
             time: 0,
             rated: 32_000,
-            pause: 0,
-            ventilation,
+            pause,
+            ventilation: false,
         })
         .unwrap();
         assert_eq!(reply, Reply::of(&state, 0));
@@ -64,7 +66,12 @@ impl Post {
 
     /// The bench list up to the first closing at 40.
     fn closed() -> Post {
-        let mut post = Post::begin(false);
+        Post::closed_with(0)
+    }
+
+    /// The same with a pause of its own.
+    fn closed_with(pause: u64) -> Post {
+        let mut post = Post::begin(pause);
         post.call(0, Event::Limit(32_000));
         assert_eq!(post.sample(10, 9_000, 9_000).letter, b'U');
         let reply = post.sample(20, 9_000, 9_000);
@@ -74,6 +81,17 @@ impl Post {
         assert_eq!((reply.letter, reply.digit, reply.wave), (b'C', 2, 533));
         assert_eq!((reply.closed, reply.closings), (true, 1));
         assert!(post.outcome.unwrap().closing && post.outcome.unwrap().conditions.all());
+        post
+    }
+
+    /// The bench list up to the opening at 60.
+    fn opened(pause: u64) -> Post {
+        let mut post = Post::closed_with(pause);
+        assert!(post.sample(50, 9_000, -12_000).closed);
+        let reply = post.sample(60, 9_000, -12_000);
+        assert_eq!((reply.closed, reply.letter, reply.digit), (false, b'B', 2));
+        let causes = post.outcome.unwrap().causes;
+        assert_eq!(causes, [true, false, false, false, false]);
         post
     }
 }
@@ -228,15 +246,21 @@ fn bench_list_to_the_tick_at_121() {
 
 #[test]
 fn bench_list_with_two_b_samples() {
-    let mut post = Post::closed();
-    assert!(post.sample(50, 9_000, -12_000).closed);
-    let reply = post.sample(60, 9_000, -12_000);
-    assert_eq!((reply.closed, reply.letter, reply.digit), (false, b'B', 2));
-    let causes = post.outcome.unwrap().causes;
-    assert_eq!(causes, [true, false, false, false, false]);
+    let mut post = Post::opened(3_000);
+    assert_eq!(post.state.pause, 3_000);
     let reply = post.ready(70, 3_050);
     assert_eq!((reply.closed, reply.closings), (false, 1));
     let reply = post.ready(3_060, 3_060);
+    assert_eq!((reply.closed, reply.closings), (true, 2));
+}
+
+#[test]
+fn bench_list_with_two_b_samples_and_pause_0() {
+    let mut post = Post::opened(0);
+    assert_eq!(post.state.pause, 10_000);
+    let reply = post.ready(70, 10_050);
+    assert_eq!((reply.closed, reply.closings), (false, 1));
+    let reply = post.ready(10_060, 10_060);
     assert_eq!((reply.closed, reply.closings), (true, 2));
 }
 
@@ -295,7 +319,7 @@ fn repeated_limit_of_0() {
 
 #[test]
 fn refused_call_moves_no_clock() {
-    let mut post = Post::begin(false);
+    let mut post = Post::begin(0);
     assert_eq!(post.call(100, Event::Limit(80_001)).refusal, 7);
     assert_eq!(post.call(MAX_TIME + 1, Event::Tick).refusal, 3);
     assert_eq!(post.call(50, Event::Tick).refusal, 0);
@@ -357,8 +381,9 @@ fn asked(time: u64, rated: u32, pause: u64) -> Result<(State, Reply), u8> {
 #[test]
 fn begin_accepted() {
     for (rated, pause, kept) in [
-        (6_000, 0, 3_000),
+        (6_000, 0, 10_000),
         (80_000, 1_000, 1_000),
+        (32_000, 3_000, 3_000),
         (32_000, 60_000, 60_000),
     ] {
         let (state, reply) = asked(MAX_TIME, rated, pause).unwrap();
@@ -374,6 +399,10 @@ fn begin_accepted() {
             (1_000, false, 0)
         );
         assert!(reply.may_tell(0) && !reply.may_tell(1));
+        // Every pause that begin stores is taken from a lent controller, and 0 is not.
+        assert_eq!(refusal_of_call(&state, MAX_TIME, &Event::Tick), 0);
+        let lent = State { pause: 0, ..state };
+        assert_eq!(refusal_of_call(&lent, MAX_TIME, &Event::Tick), 1);
     }
 }
 
@@ -443,6 +472,10 @@ fn altered_controllers_at_the_edge_are_accepted() {
     for wave in [0, 100, 960, 1_000] {
         edge.wave = wave;
         assert_eq!(edge.call(40, &Event::Tick).1.reply.refusal, 0);
+    }
+    for pause in [1_000, 3_000, 10_000, 60_000] {
+        edge.pause = pause;
+        assert_eq!(edge.call(40, &Event::Tick).1.reply.refusal, 0, "{pause}");
     }
 }
 

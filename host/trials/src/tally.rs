@@ -184,6 +184,11 @@ impl Tally {
         if age == Some(before.pause) {
             self.count("age", "pause, closes");
         }
+        match (before.pause, age) {
+            (10_000, Some(9_999)) => self.count("age", "9,999 of 10,000, stays"),
+            (10_000, Some(10_000)) => self.count("age", "10,000 of 10,000, closes"),
+            _ => {}
+        }
     }
 
     /// Closing conditions that were missing alone.

@@ -11,8 +11,9 @@ pub const BYTES: [u8; 14] = [
 ];
 
 /// Ages of stored times, at the ends of their rules, ms.
-pub const AGES: [u64; 16] = [
-    0, 1, 79, 80, 81, 999, 1_000, 2_999, 3_000, 3_001, 4_999, 5_000, 5_001, 59_999, 60_000, 90_000,
+pub const AGES: [u64; 18] = [
+    0, 1, 79, 80, 81, 999, 1_000, 2_999, 3_000, 3_001, 4_999, 5_000, 5_001, 9_999, 10_000, 59_999,
+    60_000, 90_000,
 ];
 
 /// Closings around their end.
@@ -86,7 +87,7 @@ fn wild_settings(dice: &mut Dice) -> raw::Settings {
         rated: seldom(dice, &BAD_RATED, &[6_000, 32_000, 52_000, 80_000]),
         pause: match dice.one_in(40) {
             true => dice.pick(&[0, BAD_PAUSES[2], BAD_PAUSES[3], u64::MAX]),
-            false => dice.pick(&[1_000, 3_000, 60_000]),
+            false => dice.pick(&[1_000, 3_000, 10_000, 60_000]),
         },
         ventilation: dice.one_in(2),
     }

@@ -94,7 +94,7 @@ fn rated(base: &raw::Controller) -> Vec<raw::Controller> {
 }
 
 fn pauses(base: &raw::Controller) -> Vec<raw::Controller> {
-    let values = [0, 1, 999, 1_000, 60_000, 60_001, u64::MAX];
+    let values = [0, 1, 999, 1_000, 3_000, 60_000, 60_001, u64::MAX];
     each(base, &values, |c, value| c.settings.pause = value)
 }
 

@@ -14,7 +14,7 @@ const REACHED: [&str; 16] = [
     "iv v", "i ii iv", "i ii v", "ii iv v",
 ];
 
-const AGES: [&str; 8] = [
+const AGES: [&str; 10] = [
     "sound 80, closed",
     "sound 81, opens",
     "stop 2,999, runs",
@@ -23,6 +23,8 @@ const AGES: [&str; 8] = [
     "over-run 5,000, latches",
     "pause less 1, stays",
     "pause, closes",
+    "9,999 of 10,000, stays",
+    "10,000 of 10,000, closes",
 ];
 
 /// The states that a list of calls can bring about.

@@ -8,7 +8,6 @@ use chuldariin_trials::trial::Trial;
 
 /// B2 at 20, closed at 40.
 const CHARGING: &str = "\
-begin 0 32000 0 no
 limit 0 32000
 sample 10 9000 9000
 sample 20 9000 9000
@@ -27,8 +26,14 @@ fn run(calls: Vec<Call>) -> State {
     trial.state()
 }
 
+/// Charging, with a pause as begin is given it, and these calls.
+fn list_with(pause: u64, text: &str) -> Vec<Call> {
+    let list = format!("begin 0 32000 {pause} no\n{CHARGING}{text}");
+    calls(&list).expect("a list of calls")
+}
+
 fn list(text: &str) -> Vec<Call> {
-    calls(&format!("{CHARGING}{text}")).expect("a list of calls")
+    list_with(0, text)
 }
 
 /// The state after charging and these calls.
@@ -51,15 +56,20 @@ fn closes_at_40_and_starves_at_121() {
     assert!(!after("sample 50 9000 -12000\ntick 121\n").closed);
 }
 
+/// Opened at 60, with the van ready again at once.
 #[test]
 fn closes_again_after_the_pause() {
-    let mut calls = list("sample 50 9000 -12000\nsample 60 9000 -12000\n");
-    assert!(!run(calls.clone()).closed);
-    calls.extend(ready(70, 3_050));
-    assert!(!run(calls.clone()).closed);
-    calls.extend(ready(3_060, 3_060));
-    let state = run(calls);
-    assert_eq!((state.closed, state.closings), (true, 2));
+    for (given, pause) in [(3_000, 3_000), (0, 10_000)] {
+        let closing = 60 + pause;
+        let mut calls = list_with(given, "sample 50 9000 -12000\nsample 60 9000 -12000\n");
+        assert!(!run(calls.clone()).closed, "pause {given}");
+        calls.extend(ready(70, closing - 10));
+        assert!(!run(calls.clone()).closed, "pause {given}");
+        calls.extend(ready(closing, closing));
+        let state = run(calls);
+        assert_eq!((state.closed, state.closings), (true, 2), "pause {given}");
+        assert_eq!(state.pause, pause);
+    }
 }
 
 #[test]

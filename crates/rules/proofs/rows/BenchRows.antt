@@ -9,7 +9,7 @@ use borrow.Author.Tests.{lt-leb, le-leb, le-ltb}
 use Rattle.pilot.specs.Bands.{bandB, bandC}
 use Rattle.rules.specs.Calls.{limit, measure, tick}
 use Rattle.rules.specs.Reply.{letterF, letterU}
-use Rattle.rules.proofs.rows.Sequences.{Sequence, steadyAt, drivenAt, call, every, row, at32A, charging, LevelCall, Tells, AllTell}
+use Rattle.rules.proofs.rows.Sequences.{Sequence, steadyAt, drivenAt, call, every, row, at32A, at32AWith, charging, LevelCall, Tells, AllTell}
 use Rattle.rules.specs.Answer.{next}
 use Rattle.rules.specs.Lent.{Lent}
 use Rattle.rules.specs.State.{Moment, noFaults, setTo, empty}
@@ -45,15 +45,31 @@ unsoundTwice =
           ∷ [];
     }
 
--- then the next closing waits for the pause: it comes at 3,060
+-- and then so many samples of a ready van, every 10 from 70
+abbrev readyAgain : ℕ → List LevelCall
+readyAgain n = charging 0 32000 ++ (call 50 (drivenAt 9000) ∷ call 60 (drivenAt 9000) ∷ every n 10 70 (drivenAt 6000))
+
+-- the next closing waits for the pause: with 3,000, which begin names, it comes at 3,060
 abbrev pub secondCharge : Sequence
 secondCharge =
     record {
-      start = at32A 0;
-      first = charging 0 32000 ++ (call 50 (drivenAt 9000) ∷ call 60 (drivenAt 9000) ∷ every 298 10 70 (drivenAt 6000));
+      start = at32AWith 3000 0;
+      first = readyAgain 298;
       entries =
           row 3050 (drivenAt 6000) 0 bandC 2 533 false 0 1
           ∷ row 3060 (drivenAt 6000) 0 bandC 2 533 true 0 2
+          ∷ [];
+    }
+
+-- and with pause 0 at 10,060
+abbrev pub secondChargeDefault : Sequence
+secondChargeDefault =
+    record {
+      start = at32A 0;
+      first = readyAgain 998;
+      entries =
+          row 10050 (drivenAt 6000) 0 bandC 2 533 false 0 1
+          ∷ row 10060 (drivenAt 6000) 0 bandC 2 533 true 0 2
           ∷ [];
     }
 
@@ -94,14 +110,14 @@ noOverRun =
     }
 
 abbrev pub benchRows : List Sequence
-benchRows = firstCharge ∷ unsoundTwice ∷ secondCharge ∷ limitWithdrawn ∷ overRun ∷ noOverRun ∷ []
+benchRows = firstCharge ∷ unsoundTwice ∷ secondCharge ∷ secondChargeDefault ∷ limitWithdrawn ∷ overRun ∷ noOverRun ∷ []
 
--- a post at 32 A with samples that are proven in C, the last at a time
-abbrev sampling : Bool → Moment → Moment → ℕ → Lent
-sampling closed opening overrun t =
+-- a post at 32 A with a pause in force and samples that are proven in C, the last at a time
+abbrev sampling : ℕ → Bool → Moment → Moment → ℕ → Lent
+sampling pause closed opening overrun t =
     record {
       state = record {
-        settings = record { rated = 32000; pause = 3000; ventilation = false };
+        settings = record { rated = 32000; pause = pause; ventilation = false };
         limit = 32000;
         wave = 533;
         closed = closed;
@@ -118,22 +134,24 @@ sampling closed opening overrun t =
     }
 
 -- opened at 60, and the pause is not over
-waits : (t : ℕ) → 60 ≤ t → t + 10 < 3060
-    → next (sampling false (setTo 60) empty t) (evaluatedOf (call (t + 10) (drivenAt 6000))) ≡ sampling false (setTo 60) empty (t + 10)
+waits : (pause : ℕ) → 1000 ≤ pause → pause ≤ 60000 → (t : ℕ) → 60 ≤ t → t + 10 < 60 + pause
+    → next (sampling pause false (setTo 60) empty t) (evaluatedOf (call (t + 10) (drivenAt 6000))) ≡ sampling pause false (setTo 60) empty (t + 10)
 unfolding computed
-waits t late early =
+waits pause least most t late early =
     rw (
+      le-leb 1000 pause least,
+      le-leb pause 60000 most,
       le-ltb 1000000000000 (t + 10) (omega arith),
       le-ltb (t + 10) t (omega arith),
       le-leb t t (omega arith),
       le-leb 60 t late,
-      lt-leb 3060 (t + 10) early,
+      lt-leb (60 + pause) (t + 10) early,
     )
 
 -- closed, and no over-run is 5,000 old
 holds : (overrun : Moment) (t : ℕ) → t + 80 ≤ 1000000000000 → not (overrun .set) || leb (overrun .time) t ≡ true
     → overrun .set && leb (overrun .time + 5000) (t + 80) ≡ false
-    → next (sampling true empty overrun t) (evaluatedOf (call (t + 80) (drivenAt 6000))) ≡ sampling true empty overrun (t + 80)
+    → next (sampling 10000 true empty overrun t) (evaluatedOf (call (t + 80) (drivenAt 6000))) ≡ sampling 10000 true empty overrun (t + 80)
 unfolding computed
 holds overrun t within stored young =
     rw (
@@ -152,15 +170,20 @@ first-charge = tells-by firstCharge (at32A 0) refl refl refl refl
 
 unsound-twice : Tells unsoundTwice
 unfolding computed
-unsound-twice = tells-by unsoundTwice (sampling true empty empty 40) refl refl refl refl
+unsound-twice = tells-by unsoundTwice (sampling 10000 true empty empty 40) refl refl refl refl
 
 second-charge : Tells secondCharge
 unfolding computed
 second-charge =
-    tells-by secondCharge (sampling false (setTo 60) empty 3040) refl refl
-    (lasting (sampling false (setTo 60) empty) 10 (drivenAt 6000) 60 3060 waits (at32A 0)
-    (charging 0 32000 ++ (call 50 (drivenAt 9000) ∷ call 60 (drivenAt 9000) ∷ call 70 (drivenAt 6000) ∷ call 80 (drivenAt 6000) ∷ []))
-    296 80 refl (omega arith) (omega arith))
+    tells-by secondCharge (sampling 3000 false (setTo 60) empty 3040) refl refl
+    (lasting (sampling 3000 false (setTo 60) empty) 10 (drivenAt 6000) 60 3060 (waits 3000 (omega arith) (omega arith)) (at32AWith 3000 0) (readyAgain 2) 296 80 refl (omega arith) (omega arith))
+    refl
+
+second-charge-default : Tells secondChargeDefault
+unfolding computed
+second-charge-default =
+    tells-by secondChargeDefault (sampling 10000 false (setTo 60) empty 10040) refl refl
+    (lasting (sampling 10000 false (setTo 60) empty) 10 (drivenAt 6000) 60 10060 (waits 10000 (omega arith) (omega arith)) (at32A 0) (readyAgain 2) 996 80 refl (omega arith) (omega arith))
     refl
 
 limit-withdrawn : Tells limitWithdrawn
@@ -174,8 +197,8 @@ measured line = charging 0 32000 ++ (call 100 (measure line) ∷ call 110 (drive
 over-run : Tells overRun
 unfolding computed measured
 over-run =
-    tells-by overRun (sampling true empty (setTo 100) 5070) refl refl
-    (lasting (sampling true empty (setTo 100)) 80 (drivenAt 6000) 100 5100
+    tells-by overRun (sampling 10000 true empty (setTo 100) 5070) refl refl
+    (lasting (sampling 10000 true empty (setTo 100)) 80 (drivenAt 6000) 100 5100
     (λ t late early. holds (setTo 100) t (omega arith) (le-leb 100 t late) (lt-leb 5100 (t + 80) early)) (at32A 0)
     (measured 35179) 62 110 refl (omega arith) (omega arith))
     refl
@@ -183,10 +206,10 @@ over-run =
 no-over-run : Tells noOverRun
 unfolding computed measured
 no-over-run =
-    tells-by noOverRun (sampling true empty empty 5070) refl refl
-    (lasting (sampling true empty empty) 80 (drivenAt 6000) 0 1000000000000
+    tells-by noOverRun (sampling 10000 true empty empty 5070) refl refl
+    (lasting (sampling 10000 true empty empty) 80 (drivenAt 6000) 0 1000000000000
     (λ t late early. holds empty t (omega arith) refl refl) (at32A 0) (measured 35178) 62 110 refl (omega arith) (omega arith))
     refl
 
 pub bench-rows : AllTell benchRows
-bench-rows = (first-charge, (unsound-twice, (second-charge, (limit-withdrawn, (over-run, (no-over-run, tt))))))
+bench-rows = (first-charge, (unsound-twice, (second-charge, (second-charge-default, (limit-withdrawn, (over-run, (no-over-run, tt)))))))

@@ -95,9 +95,12 @@ row time event number letter digit wave closed kind closings =
       reply = record { refusal = number; letter = letter; digit = digit; wave = wave; closed = closed; fault = kind; closings = closings };
     }
 
--- the controllers of begin at a time: rated 32 A and 80 A, pause 0, no ventilation
+-- the controllers of begin at a time: rated 32 A with a pause that begin names, and rated 32 A and 80 A with pause 0; no ventilation
+abbrev pub at32AWith : ℕ → ℕ → Lent
+at32AWith pause time = begun (record { time = time; rated = 32000; pause = pause; ventilation = false })
+
 abbrev pub at32A : ℕ → Lent
-at32A time = begun (record { time = time; rated = 32000; pause = 0; ventilation = false })
+at32A time = at32AWith 0 time
 
 abbrev pub at80A : ℕ → Lent
 at80A time = begun (record { time = time; rated = 80000; pause = 0; ventilation = false })

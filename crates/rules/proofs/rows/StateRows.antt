@@ -17,7 +17,7 @@ abbrev pub FreshRow : Type 0
 FreshRow =
     fresh (record { time = 5; rated = 32000; pause = 0; ventilation = true })
     ≡ record {
-      settings = record { rated = 32000; pause = 3000; ventilation = true };
+      settings = record { rated = 32000; pause = 10000; ventilation = true };
       limit = 0;
       wave = 1000;
       closed = false;
