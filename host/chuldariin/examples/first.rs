@@ -23,7 +23,7 @@ fn main() -> Result<(), Refusal> {
     let begin = Begin {
         time: Millis(0),
         rated: Milliamps(32_000),
-        pause: Millis(0),
+        pause: Millis(0), // stands for 10 s
         ventilation: false,
     };
     let (mut post, reply) = Post::begin(begin)?;

@@ -32,7 +32,7 @@
 //! let (mut post, _) = Post::begin(Begin {
 //!     time: Millis(0),
 //!     rated: Milliamps(32_000),
-//!     pause: Millis(0),
+//!     pause: Millis(0), // stands for 10 s
 //!     ventilation: false,
 //! })?;
 //! post.limit(Millis(0), Milliamps(32_000))?;

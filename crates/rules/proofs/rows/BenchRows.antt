@@ -7,6 +7,7 @@ use native.Mathlib.Omega.{arith}
 use lib.Dec.{leb}
 use borrow.Author.Tests.{lt-leb, le-leb, le-ltb}
 use Rattle.pilot.specs.Bands.{bandB, bandC}
+use Rattle.rules.specs.Begin.{defaultPause}
 use Rattle.rules.specs.Calls.{limit, measure, tick}
 use Rattle.rules.specs.Reply.{letterF, letterU}
 use Rattle.rules.proofs.rows.Sequences.{Sequence, steadyAt, drivenAt, call, every, row, at32A, at32AWith, charging, LevelCall, Tells, AllTell}
@@ -151,7 +152,7 @@ waits pause least most t late early =
 -- closed, and no over-run is 5,000 old
 holds : (overrun : Moment) (t : ℕ) → t + 80 ≤ 1000000000000 → not (overrun .set) || leb (overrun .time) t ≡ true
     → overrun .set && leb (overrun .time + 5000) (t + 80) ≡ false
-    → next (sampling 10000 true empty overrun t) (evaluatedOf (call (t + 80) (drivenAt 6000))) ≡ sampling 10000 true empty overrun (t + 80)
+    → next (sampling defaultPause true empty overrun t) (evaluatedOf (call (t + 80) (drivenAt 6000))) ≡ sampling defaultPause true empty overrun (t + 80)
 unfolding computed
 holds overrun t within stored young =
     rw (
@@ -170,7 +171,7 @@ first-charge = tells-by firstCharge (at32A 0) refl refl refl refl
 
 unsound-twice : Tells unsoundTwice
 unfolding computed
-unsound-twice = tells-by unsoundTwice (sampling 10000 true empty empty 40) refl refl refl refl
+unsound-twice = tells-by unsoundTwice (sampling defaultPause true empty empty 40) refl refl refl refl
 
 second-charge : Tells secondCharge
 unfolding computed
@@ -197,8 +198,8 @@ measured line = charging 0 32000 ++ (call 100 (measure line) ∷ call 110 (drive
 over-run : Tells overRun
 unfolding computed measured
 over-run =
-    tells-by overRun (sampling 10000 true empty (setTo 100) 5070) refl refl
-    (lasting (sampling 10000 true empty (setTo 100)) 80 (drivenAt 6000) 100 5100
+    tells-by overRun (sampling defaultPause true empty (setTo 100) 5070) refl refl
+    (lasting (sampling defaultPause true empty (setTo 100)) 80 (drivenAt 6000) 100 5100
     (λ t late early. holds (setTo 100) t (omega arith) (le-leb 100 t late) (lt-leb 5100 (t + 80) early)) (at32A 0)
     (measured 35179) 62 110 refl (omega arith) (omega arith))
     refl
@@ -206,8 +207,8 @@ over-run =
 no-over-run : Tells noOverRun
 unfolding computed measured
 no-over-run =
-    tells-by noOverRun (sampling 10000 true empty empty 5070) refl refl
-    (lasting (sampling 10000 true empty empty) 80 (drivenAt 6000) 0 1000000000000
+    tells-by noOverRun (sampling defaultPause true empty empty 5070) refl refl
+    (lasting (sampling defaultPause true empty empty) 80 (drivenAt 6000) 0 1000000000000
     (λ t late early. holds empty t (omega arith) refl refl) (at32A 0) (measured 35178) 62 110 refl (omega arith) (omega arith))
     refl
 
