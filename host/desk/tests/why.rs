@@ -169,6 +169,21 @@ fn a_previous_sample_that_is_forgotten() {
 }
 
 #[test]
+fn pause_0_is_10_s() {
+    let charge = CHARGE.replace("3000 no", "0 no");
+    let answer = why(&format!("{charge}tick 121\ntick 3121\n"), "3121");
+    says(
+        &answer,
+        "pause",
+        "no   7,000 ms left of 10,000, since the opening at 121",
+    );
+    waits(
+        &answer,
+        "two proven samples in a row in one band and the end of the pause at 10121",
+    );
+}
+
+#[test]
 fn the_pause_to_the_millisecond() {
     let opened = format!("{CHARGE}tick 121\n");
     let answer = why(&format!("{opened}tick 3120\n"), "3120");
