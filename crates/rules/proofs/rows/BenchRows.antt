@@ -177,14 +177,16 @@ second-charge : Tells secondCharge
 unfolding computed
 second-charge =
     tells-by secondCharge (sampling 3000 false (setTo 60) empty 3040) refl refl
-    (lasting (sampling 3000 false (setTo 60) empty) 10 (drivenAt 6000) 60 3060 (waits 3000 (omega arith) (omega arith)) (at32AWith 3000 0) (readyAgain 2) 296 80 refl (omega arith) (omega arith))
+    (lasting (sampling 3000 false (setTo 60) empty) 10 (drivenAt 6000) 60 3060 (waits 3000 (omega arith) (omega arith))
+    (at32AWith 3000 0) (readyAgain 2) 296 80 refl (omega arith) (omega arith))
     refl
 
 second-charge-default : Tells secondChargeDefault
 unfolding computed
 second-charge-default =
     tells-by secondChargeDefault (sampling 10000 false (setTo 60) empty 10040) refl refl
-    (lasting (sampling 10000 false (setTo 60) empty) 10 (drivenAt 6000) 60 10060 (waits 10000 (omega arith) (omega arith)) (at32A 0) (readyAgain 2) 996 80 refl (omega arith) (omega arith))
+    (lasting (sampling 10000 false (setTo 60) empty) 10 (drivenAt 6000) 60 10060 (waits 10000 (omega arith) (omega arith))
+    (at32A 0) (readyAgain 2) 996 80 refl (omega arith) (omega arith))
     refl
 
 limit-withdrawn : Tells limitWithdrawn
