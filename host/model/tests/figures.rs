@@ -246,22 +246,14 @@ fn bench_list_to_the_tick_at_121() {
 
 #[test]
 fn bench_list_with_two_b_samples() {
-    let mut post = Post::opened(3_000);
-    assert_eq!(post.state.pause, 3_000);
-    let reply = post.ready(70, 3_050);
-    assert_eq!((reply.closed, reply.closings), (false, 1));
-    let reply = post.ready(3_060, 3_060);
-    assert_eq!((reply.closed, reply.closings), (true, 2));
-}
-
-#[test]
-fn bench_list_with_two_b_samples_and_pause_0() {
-    let mut post = Post::opened(0);
-    assert_eq!(post.state.pause, 10_000);
-    let reply = post.ready(70, 10_050);
-    assert_eq!((reply.closed, reply.closings), (false, 1));
-    let reply = post.ready(10_060, 10_060);
-    assert_eq!((reply.closed, reply.closings), (true, 2));
+    for (given, stored, closing) in [(3_000, 3_000, 3_060), (0, 10_000, 10_060)] {
+        let mut post = Post::opened(given);
+        assert_eq!(post.state.pause, stored);
+        let reply = post.ready(70, closing - 10);
+        assert_eq!((reply.closed, reply.closings), (false, 1), "pause {given}");
+        let reply = post.ready(closing, closing);
+        assert_eq!((reply.closed, reply.closings), (true, 2), "pause {given}");
+    }
 }
 
 #[test]

@@ -31,6 +31,10 @@ FreshRow =
       previous = record { kept = false; verdict = record { band = 0; sound = false; proven = false; diodebad = false } };
     }
 
+-- pauses as begin is given them, and as they are stored
+abbrev pub PauseRow : Type 0
+PauseRow = map pauseFor (0 ∷ 1000 ∷ 3000 ∷ 10000 ∷ 60000 ∷ []) ≡ 10000 ∷ 1000 ∷ 3000 ∷ 10000 ∷ 60000 ∷ []
+
 -- a fault call leaves the other faults latched
 abbrev pub faultCalls : List LevelCall
 faultCalls = call 10 (fault 3) ∷ call 20 (fault 4) ∷ call 30 (fault 5) ∷ call 40 (fault 3) ∷ []
@@ -75,6 +79,10 @@ StopRow = lentAfter (unreachedByWave 0 false residual (setTo 50)) (map callOf (c
 pub fresh-row : FreshRow
 unfolding pauseFor fresh
 fresh-row = refl
+
+pub pause-row : PauseRow
+unfolding pauseFor
+pause-row = refl
 
 pub faults-row : FaultsRow
 unfolding computed
