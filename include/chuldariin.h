@@ -85,7 +85,7 @@ enum {
     CHULDARIIN_REFUSED_READING = 5,
     /* No reading has 8 readings, itself counted, within 200 mV. The pilot line is too noisy. */
     CHULDARIIN_REFUSED_UNSUPPORTED = 6,
-    /* A limit is above 80,000 mA, or a measured current above 200,000 mA. */
+    /* A limit is above 80,000 mA, or a measured current, on any line, above 200,000 mA. */
     CHULDARIIN_REFUSED_CURRENT = 7,
     /* A fault's kind is not 3, 4 or 5. Faults 1 and 2 are the controller's own. */
     CHULDARIIN_REFUSED_KIND = 8,
@@ -116,8 +116,8 @@ enum {
 
 /* What the host set at begin. */
 struct chuldariin_settings {
-    uint32_t rated;   /* rated current of the post, mA */
     uint64_t pause;   /* least time between an opening and the next closing, ms */
+    uint32_t rated;   /* rated current of the post, mA */
     bool ventilation; /* whether the post has ventilation */
 };
 
@@ -150,6 +150,13 @@ struct chuldariin_previous {
     struct chuldariin_verdict verdict;
 };
 
+/* The current on each line, mA. */
+struct chuldariin_lines {
+    uint32_t line1;
+    uint32_t line2;
+    uint32_t line3;
+};
+
 struct chuldariin_controller {
     struct chuldariin_settings settings; /* what begin was given, with pause 0 as 10,000 */
     uint32_t limit;                      /* the depot's limit, mA */
@@ -164,10 +171,14 @@ struct chuldariin_controller {
     struct chuldariin_moment stop;       /* the start of the stop */
     struct chuldariin_previous previous; /* the previous sample */
     uint32_t closings;                   /* how often the contactor has closed since begin */
+    struct chuldariin_lines lines;       /* the currents of the last accepted measure */
 };
 
 /* What a call tells. Beside refusals 1 to 8 stands the rest as the controller has it; a refused
- * begin has zeros there. */
+ * begin has zeros there.
+ * It has 28 bytes, so a call returns it in memory, at an address that the caller passes first and C
+ * hides. The 16 bytes of a version without `lines` came back in two registers: a host that was compiled
+ * with such a header has to be compiled again. */
 struct chuldariin_reply {
     uint8_t refusal;   /* 0 if accepted, else CHULDARIIN_REFUSED_... */
     uint8_t letter;    /* the state: 'A' to 'E', 'U' unsettled, 'F' a fault is latched */
@@ -176,6 +187,7 @@ struct chuldariin_reply {
     bool closed;       /* the contactor command */
     uint8_t fault;     /* 0, or a latched fault */
     uint32_t closings; /* how often the contactor has closed since begin */
+    struct chuldariin_lines lines; /* the currents of the last accepted measure; 0 before the first */
 };
 
 /* What a van reads from a duty. */
@@ -195,24 +207,27 @@ struct chuldariin_duty_reply {
 CHULDARIIN_ASSERT(sizeof(bool) == 1);
 CHULDARIIN_ASSERT(sizeof(struct chuldariin_controller) == 128);
 CHULDARIIN_ASSERT(CHULDARIIN_ALIGNOF(struct chuldariin_controller) == 8);
-CHULDARIIN_ASSERT(offsetof(struct chuldariin_controller, limit) == 24);
-CHULDARIIN_ASSERT(offsetof(struct chuldariin_controller, wave) == 28);
-CHULDARIIN_ASSERT(offsetof(struct chuldariin_controller, closed) == 32);
-CHULDARIIN_ASSERT(offsetof(struct chuldariin_controller, settled) == 33);
-CHULDARIIN_ASSERT(offsetof(struct chuldariin_controller, faults) == 34);
-CHULDARIIN_ASSERT(offsetof(struct chuldariin_controller, last) == 40);
-CHULDARIIN_ASSERT(offsetof(struct chuldariin_controller, sound) == 48);
-CHULDARIIN_ASSERT(offsetof(struct chuldariin_controller, opening) == 64);
-CHULDARIIN_ASSERT(offsetof(struct chuldariin_controller, overrun) == 80);
-CHULDARIIN_ASSERT(offsetof(struct chuldariin_controller, stop) == 96);
-CHULDARIIN_ASSERT(offsetof(struct chuldariin_controller, previous) == 112);
-CHULDARIIN_ASSERT(offsetof(struct chuldariin_controller, closings) == 120);
-CHULDARIIN_ASSERT(sizeof(struct chuldariin_reply) == 16);
+CHULDARIIN_ASSERT(offsetof(struct chuldariin_controller, limit) == 16);
+CHULDARIIN_ASSERT(offsetof(struct chuldariin_controller, wave) == 20);
+CHULDARIIN_ASSERT(offsetof(struct chuldariin_controller, closed) == 24);
+CHULDARIIN_ASSERT(offsetof(struct chuldariin_controller, settled) == 25);
+CHULDARIIN_ASSERT(offsetof(struct chuldariin_controller, faults) == 26);
+CHULDARIIN_ASSERT(offsetof(struct chuldariin_controller, last) == 32);
+CHULDARIIN_ASSERT(offsetof(struct chuldariin_controller, sound) == 40);
+CHULDARIIN_ASSERT(offsetof(struct chuldariin_controller, opening) == 56);
+CHULDARIIN_ASSERT(offsetof(struct chuldariin_controller, overrun) == 72);
+CHULDARIIN_ASSERT(offsetof(struct chuldariin_controller, stop) == 88);
+CHULDARIIN_ASSERT(offsetof(struct chuldariin_controller, previous) == 104);
+CHULDARIIN_ASSERT(offsetof(struct chuldariin_controller, closings) == 112);
+CHULDARIIN_ASSERT(offsetof(struct chuldariin_controller, lines) == 116);
+CHULDARIIN_ASSERT(sizeof(struct chuldariin_lines) == 12);
+CHULDARIIN_ASSERT(sizeof(struct chuldariin_reply) == 28);
 CHULDARIIN_ASSERT(CHULDARIIN_ALIGNOF(struct chuldariin_reply) == 4);
 CHULDARIIN_ASSERT(offsetof(struct chuldariin_reply, wave) == 4);
 CHULDARIIN_ASSERT(offsetof(struct chuldariin_reply, closed) == 8);
 CHULDARIIN_ASSERT(offsetof(struct chuldariin_reply, fault) == 9);
 CHULDARIIN_ASSERT(offsetof(struct chuldariin_reply, closings) == 12);
+CHULDARIIN_ASSERT(offsetof(struct chuldariin_reply, lines) == 16);
 CHULDARIIN_ASSERT(sizeof(struct chuldariin_reading_reply) == 8);
 CHULDARIIN_ASSERT(sizeof(struct chuldariin_duty_reply) == 8);
 
@@ -236,7 +251,15 @@ struct chuldariin_reply chuldariin_sample(struct chuldariin_controller *c, uint6
  * driven, and a closed contactor opens once that has lasted 3 s. Refused: 3, 2, 1, 7. */
 struct chuldariin_reply chuldariin_limit(struct chuldariin_controller *c, uint64_t time, uint32_t current);
 
-/* The largest line current measured, 0 to 200,000 mA. Refused: 3, 2, 1, 7. */
+/* The current measured on each line, 0 to 200,000 mA; a line that the van does not use has 0. All three
+ * are kept and shown, whatever the contactor and the wave; with the contactor closed and the wave driven
+ * the largest is judged: more than 1.1 times the announced current for 5 s is fault 2. If any of them is
+ * above 200,000 none is kept. Refused: 3, 2, 1, 7. */
+struct chuldariin_reply chuldariin_measure_lines(struct chuldariin_controller *c, uint64_t time, uint32_t line1,
+                                                 uint32_t line2, uint32_t line3);
+
+/* For a post that measures one current, or hands over the largest: chuldariin_measure_lines with that
+ * current on line 1, and 0 on the others. Refused: 3, 2, 1, 7. */
 struct chuldariin_reply chuldariin_measure(struct chuldariin_controller *c, uint64_t time, uint32_t current);
 
 /* A fault from outside: CHULDARIIN_FAULT_RESIDUAL, _WELDED or _TEMPERATURE. Refused: 3, 2, 1, 8. */

@@ -40,7 +40,8 @@ static bool same(const controller *a, const controller *b) {
            && a->sound.set == b->sound.set && a->sound.time == b->sound.time && a->opening.set == b->opening.set
            && a->opening.time == b->opening.time && a->overrun.set == b->overrun.set
            && a->overrun.time == b->overrun.time && a->stop.set == b->stop.set && a->stop.time == b->stop.time
-           && memcmp(&a->previous, &b->previous, sizeof a->previous) == 0 && a->closings == b->closings;
+           && memcmp(&a->previous, &b->previous, sizeof a->previous) == 0 && a->closings == b->closings
+           && a->lines.line1 == b->lines.line1 && a->lines.line2 == b->lines.line2 && a->lines.line3 == b->lines.line3;
 }
 
 /* A ready van with a sound diode; the contactor closes at 40. pause: as begin is given it. */
@@ -104,6 +105,38 @@ static void over_current_and_clear(void) {
     EXPECT(says(chuldariin_clear(&c, 5070), 'U', 0, 1000, false, 0, 1));
 }
 
+static bool shows(struct chuldariin_lines l, uint32_t line1, uint32_t line2, uint32_t line3) {
+    return l.line1 == line1 && l.line2 == line2 && l.line3 == line3;
+}
+
+/* 35,178 on every line is allowed, and 35,179 on any of them starts an over-run. */
+static void over_current_on_each_line(void) {
+    static const uint32_t over[3][3] = {{35179, 0, 12000}, {31000, 35179, 0}, {0, 35178, 35179}};
+    for (int i = 0; i < 3; i++) {
+        controller c = charging();
+        EXPECT(shows(chuldariin_measure_lines(&c, 40, 35178, 35178, 35178).lines, 35178, 35178, 35178) && !c.overrun.set);
+        reply r = chuldariin_measure_lines(&c, 50, over[i][0], over[i][1], over[i][2]);
+        EXPECT(shows(r.lines, over[i][0], over[i][1], over[i][2]) && c.overrun.set);
+        for (uint64_t t = 60; t <= 5040; t += 10)
+            EXPECT(sample(&c, t, 6000, -12000).closed);
+        EXPECT(says(chuldariin_tick(&c, 5049), 'C', 2, 533, true, 0, 1));
+        EXPECT(says(chuldariin_tick(&c, 5050), 'F', 0, 0, false, CHULDARIIN_FAULT_OVERCURRENT, 1));
+    }
+}
+
+/* The three of the last accepted measure, whatever the contactor and the wave; a measure with one current has it on line 1. */
+static void lines_shown(void) {
+    controller c = {0};
+    EXPECT(shows(chuldariin_begin(&c, 0, 32000, 0, false).lines, 0, 0, 0));
+    EXPECT(shows(chuldariin_measure_lines(&c, 0, 1, 2, 3).lines, 1, 2, 3));
+    EXPECT(shows(chuldariin_limit(&c, 0, 32000).lines, 1, 2, 3));
+    EXPECT(shows(chuldariin_measure(&c, 0, 4).lines, 4, 0, 0) && shows(c.lines, 4, 0, 0));
+    EXPECT(shows(chuldariin_begin(&c, 0, 5999, 0, false).lines, 0, 0, 0) && shows(c.lines, 4, 0, 0));
+    EXPECT(shows(chuldariin_begin(&c, 0, 32000, 0, false).lines, 0, 0, 0) && shows(c.lines, 0, 0, 0));
+    c.lines.line3 = 200001;
+    EXPECT(shows(chuldariin_tick(&c, 0).lines, 0, 0, 200001));
+}
+
 /* The call was refused with this number, and the controller, which is settled under a square wave, and all that the reply tells of it
  * are as before. */
 static void refused(reply r, int number, const controller *before, const controller *after) {
@@ -111,10 +144,12 @@ static void refused(reply r, int number, const controller *before, const control
     EXPECT(same(before, after));
     EXPECT(r.letter == before->settled && r.digit == 2 && r.fault == 0);
     EXPECT(r.wave == before->wave && r.closed == before->closed && r.closings == before->closings);
+    EXPECT(shows(r.lines, before->lines.line1, before->lines.line2, before->lines.line3));
 }
 
 static void each_refusal(void) {
     controller c = charging();
+    EXPECT(shows(chuldariin_measure_lines(&c, 40, 7, 8, 9).lines, 7, 8, 9));
     const controller before = c;
     int32_t readings[1025] = {0};
 
@@ -130,6 +165,9 @@ static void each_refusal(void) {
     refused(chuldariin_sample(&c, 50, readings, 256), CHULDARIIN_REFUSED_UNSUPPORTED, &before, &c);
     refused(chuldariin_limit(&c, 50, 80001), CHULDARIIN_REFUSED_CURRENT, &before, &c);
     refused(chuldariin_measure(&c, 50, 200001), CHULDARIIN_REFUSED_CURRENT, &before, &c);
+    refused(chuldariin_measure_lines(&c, 50, 200001, 1, 2), CHULDARIIN_REFUSED_CURRENT, &before, &c);
+    refused(chuldariin_measure_lines(&c, 50, 1, 200001, 2), CHULDARIIN_REFUSED_CURRENT, &before, &c);
+    refused(chuldariin_measure_lines(&c, 50, 1, 2, 200001), CHULDARIIN_REFUSED_CURRENT, &before, &c);
     refused(chuldariin_fault(&c, 50, 2), CHULDARIIN_REFUSED_KIND, &before, &c);
 
     c.wave = 961;
@@ -164,6 +202,8 @@ int main(void) {
     closes_again_at(10060, 0);
     opens_after_three_seconds();
     over_current_and_clear();
+    over_current_on_each_line();
+    lines_shown();
     each_refusal();
     before_any_begin();
     duties();

@@ -13,15 +13,18 @@ static controller post;
 static int32_t readings[LENGTH];
 static uint8_t refusal;
 
-/* No C, so that it has no frame at any optimisation. */
+/* No C, so that it has no frame at any optimisation. It returns the place of the reply, as a call does, and writes nothing there. */
 struct chuldariin_reply empty_call(controller *c, uint64_t time);
-__asm__(".text\nempty_call: ret\n");
+struct chuldariin_duty_reply empty_duty(uint32_t current);
+__asm__(".text\nempty_call: mov %rdi, %rax\nempty_duty: ret\n");
 
 static void nothing(void) { refusal = empty_call(&post, 50).refusal; }
+static void nothing_small(void) { refusal = empty_duty(32000).refusal; }
 static void begin(void) { refusal = chuldariin_begin(&post, 50, 32000, 0, false).refusal; }
 static void sample(void) { refusal = chuldariin_sample(&post, 50, readings, LENGTH).refusal; }
 static void limit(void) { refusal = chuldariin_limit(&post, 50, 16000).refusal; }
 static void measure(void) { refusal = chuldariin_measure(&post, 50, 36000).refusal; }
+static void measure_lines(void) { refusal = chuldariin_measure_lines(&post, 50, 16000, 36000, 12000).refusal; }
 static void fault(void) { refusal = chuldariin_fault(&post, 50, CHULDARIIN_FAULT_RESIDUAL).refusal; }
 static void clear(void) { refusal = chuldariin_clear(&post, 50).refusal; }
 static void tick(void) { refusal = chuldariin_tick(&post, 50).refusal; }
@@ -70,11 +73,16 @@ static size_t deepest(void (*call)(void), const controller *start) {
     return one > other ? one : other;
 }
 
-static bool show(const char *name, void (*call)(void), const controller *start, uint8_t expected) {
-    size_t base = deepest(nothing, start) - sizeof(void *), bytes = deepest(call, start) - base;
+/* Against an empty call that returns the same: a reply takes room in the frame of its caller. */
+static bool show_beside(void (*empty)(void), const char *name, void (*call)(void), const controller *start, uint8_t expected) {
+    size_t base = deepest(empty, start) - sizeof(void *), bytes = deepest(call, start) - base;
     bool well = bytes <= LIMIT && refusal == expected;
     printf("chuldariin_%s: %zu bytes of stack%s\n", name, bytes, well ? "" : ": too many, or another answer than expected");
     return well;
+}
+
+static bool show(const char *name, void (*call)(void), const controller *start, uint8_t expected) {
+    return show_beside(nothing, name, call, start, expected);
 }
 
 int main(void) {
@@ -83,11 +91,12 @@ int main(void) {
     well &= show("begin", begin, &closed, 0);
     well &= show("limit", limit, &closed, 0);
     well &= show("measure", measure, &closed, 0) && post.overrun.set;
+    well &= show("measure_lines", measure_lines, &closed, 0) && post.overrun.set;
     well &= show("fault", fault, &closed, 0);
     well &= show("clear", clear, &closed, 0);
     well &= show("tick", tick, &closed, 0);
-    well &= show("reading", reading, &closed, 0);
-    well &= show("duty", duty, &closed, 0);
+    well &= show_beside(nothing_small, "reading", reading, &closed, 0);
+    well &= show_beside(nothing_small, "duty", duty, &closed, 0);
     well &= show("sample, which closes", sample, &plugged, 0) && post.closed;
     /* Groups of 7 equal readings, 201 mV apart. */
     for (int i = 0; i < LENGTH; i++)

@@ -19,6 +19,7 @@ replyOf r =
       closed = r .closed;
       fault = r .fault;
       closings = r .closings;
+      lines = record { line1 = record { 0 = r .lines .line1 }; line2 = record { 0 = r .lines .line2 }; line3 = record { 0 = r .lines .line3 } };
     }
 
 pub reply-fixes : (a b : Reply) → asReply a ≡ asReply b → a ≡ b

@@ -34,7 +34,13 @@ handed-back lent call number p after q reply e = rw (e, q, p, after-is lent call
 pub begun-back : (lent : Lent) (begin : Begin) (number : ℕ) → number ≡ beginRefusal begin
     → (after : Lent) → after ≡ begun begin → (reply : Reply) → reply ≡ shown 0 after
     → (refused : Reply) → refused ≡ alone number
-    → (back : Answer) → back ≡ cond (eqb number 0) (record { lent = after; reply = reply }) (record { lent = lent; reply = refused })
-    → back ≡ answerToBegin lent begin
+    → (back : Lent) → back ≡ cond (eqb number 0) after lent → (told : Reply) → told ≡ cond (eqb number 0) reply refused
+    → record { lent = back; reply = told } ≡ answerToBegin lent begin
 unfolding answerToBegin
-begun-back lent begin number p after q reply e refused a back b = rw (b, e, q, a, p)
+begun-back lent begin number p after q reply e refused a back b told t = rw (b, t, e, q, a, p) (both (eqb (beginRefusal begin) 0))
+  where
+    -- the choice of the two is the two choices
+    both : (accepted : Bool) → _≡_ {A = Answer} (record { lent = cond accepted (begun begin) lent; reply = cond accepted (shown 0 (begun begin)) (alone (beginRefusal begin)) })
+        (cond accepted (record { lent = begun begin; reply = shown 0 (begun begin) }) (record { lent = lent; reply = alone (beginRefusal begin) }))
+    both true = refl
+    both false = refl

@@ -4,15 +4,16 @@ use crate::shown;
 use controller::Controller;
 use events::refusals;
 use parts::replies;
+use parts::replies::Reply;
 use parts::settings;
 use parts::settings::Settings;
 use units::Millis;
 ghost use mathlib.Core.Path.{_≡_};
 ghost use mathlib.Core.Bool.{cond};
 ghost use Rattle.rules.specs.Answer.{begun};
-ghost use Rattle.parts.specs.Views.{beginsWith};
+ghost use Rattle.parts.specs.Views.{asReply, beginsWith};
 ghost use Rattle.controller.specs.View.{view};
-ghost use Rattle.calls.specs.Answers.{handedBack, Begins};
+ghost use Rattle.calls.specs.Answers.{Begins};
 
 // The controller of an accepted begin; its wave is steady +12 V.
 fn fresh(time: Millis, given: Settings) -> Controller
@@ -22,12 +23,16 @@ fn fresh(time: Millis, given: Settings) -> Controller
     controller::blank(inforce, 1000, time)
 }
 
-// The first if told so, else the second.
-fn pick(first: bool, a: Answer, b: Answer) -> Answer
-    ensures { λ r. ⌜
-        handedBack (r .reply) (r .controller)
-        ≡ cond first (handedBack (a .reply) (a .controller)) (handedBack (b .reply) (b .controller))
-        ⌝ }
+// The first controller if told so, else the second.
+fn pick_controller(first: bool, a: Controller, b: Controller) -> Controller
+    ensures { λ r. ⌜ view r ≡ cond first (view a) (view b) ⌝ }
+{
+    if first { a } else { b }
+}
+
+// The first reply if told so, else the second.
+fn pick_reply(first: bool, a: Reply, b: Reply) -> Reply
+    ensures { λ r. ⌜ asReply r ≡ cond first (asReply a) (asReply b) ⌝ }
 {
     if first { a } else { b }
 }
@@ -39,15 +44,12 @@ pub(crate) fn begin_with(c: Controller, time: Millis, given: Settings) -> Answer
     let number = refusals::begin_refusal(time, given);
     let accepted = number == 0;
     let fresh = fresh(time, given);
-    let reply = shown::reply(fresh, 0);
+    let shown = shown::reply(fresh, 0);
     let alone = replies::alone(number);
-    let begun = Answer {
-        controller: fresh,
+    let after = pick_controller(accepted, fresh, c);
+    let reply = pick_reply(accepted, shown, alone);
+    Answer {
+        controller: after,
         reply: reply,
-    };
-    let refused = Answer {
-        controller: c,
-        reply: alone,
-    };
-    pick(accepted, begun, refused)
+    }
 }

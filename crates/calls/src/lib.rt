@@ -1,11 +1,13 @@
 // The calls by value: each takes the controller, and hands back the next one with the reply.
 use controller::Controller;
 use events::Event;
+use parts::lines::Lines;
 use parts::replies::Reply;
 use parts::settings::Settings;
 use units::Milliamps;
 use units::Millis;
 ghost use Rattle.rules.specs.Calls.{sample, limit, measure, fault, clear, tick};
+ghost use Rattle.rules.specs.Lines.{onLine1};
 ghost use Rattle.calls.specs.Answers.{Answers, Begins};
 
 mod answered; // answered.rt: what a call hands back
@@ -48,11 +50,25 @@ pub fn limit(c: Controller, time: u64, current: u32) -> Answer
     answered::answer(c, Millis(time), Event::Limit(Milliamps(current)))
 }
 
-// The largest line current, in milliamps.
-pub fn measure(c: Controller, time: u64, current: u32) -> Answer
-    ensures { λ r. ⌜ Answers (record { time = time; event = measure current }) c (r .reply) (r .controller) ⌝ }
+// The current on each line, in milliamps.
+pub fn measure_lines(c: Controller, time: u64, line1: u32, line2: u32, line3: u32) -> Answer
+    ensures { λ r. ⌜
+        Answers (record { time = time; event = measure (record { line1 = line1; line2 = line2; line3 = line3 }) }) c (r .reply) (r .controller)
+        ⌝ }
 {
-    answered::answer(c, Millis(time), Event::Measure(Milliamps(current)))
+    let lines = Lines {
+        line1: Milliamps(line1),
+        line2: Milliamps(line2),
+        line3: Milliamps(line3),
+    };
+    answered::answer(c, Millis(time), Event::Measure(lines))
+}
+
+// One current, in milliamps: on line 1, and 0 on the others.
+pub fn measure(c: Controller, time: u64, current: u32) -> Answer
+    ensures { λ r. ⌜ Answers (record { time = time; event = measure (onLine1 current) }) c (r .reply) (r .controller) ⌝ }
+{
+    measure_lines(c, time, current, 0, 0)
 }
 
 // A fault from outside: 3 residual current, 4 welded contact, 5 over-temperature.

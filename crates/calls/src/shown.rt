@@ -11,6 +11,7 @@ ghost use Rattle.controller.specs.View.{view};
 pub(crate) fn reply(c: Controller, number: u8) -> Reply
     ensures { λ r. ⌜ asReply r ≡ shown number (view c) ⌝ }
 {
+    let lines = c.lines;
     let faulted = c.faults.any();
     let letter = replies::letter(faulted, c.settled);
     let digit = replies::digit(letter, c.wave);
@@ -23,5 +24,6 @@ pub(crate) fn reply(c: Controller, number: u8) -> Reply
         closed: c.closed,
         fault: fault,
         closings: c.closings,
+        lines: lines,
     }
 }

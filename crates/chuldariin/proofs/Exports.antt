@@ -17,6 +17,7 @@ use denote.Triple.Spec.{Meets}
 use Rattle.duty.specs.Reading.{readingOf}
 use Rattle.duty.specs.DutyFor.{dutyFor}
 use Rattle.rules.specs.Calls.{sample, limit, measure, fault, clear, tick}
+use Rattle.rules.specs.Lines.{onLine1}
 use Rattle.chuldariin.specs.Duties.{hostReading, hostDuty}
 use Rattle.chuldariin.specs.Lent.{AnswersLent, BeginsLent}
 use Rattle.chuldariin.proofs.chuldariin_begin as begin
@@ -28,6 +29,9 @@ use Rattle.chuldariin.proofs.chuldariin_sample.Met as sample-met
 use Rattle.chuldariin.proofs.chuldariin_limit as limit-call
 use Rattle.chuldariin.proofs.chuldariin_limit.Symbol as limit-symbol
 use Rattle.chuldariin.proofs.chuldariin_limit.Met as limit-met
+use Rattle.chuldariin.proofs.chuldariin_measure_lines as lines-call
+use Rattle.chuldariin.proofs.chuldariin_measure_lines.Symbol as lines-symbol
+use Rattle.chuldariin.proofs.chuldariin_measure_lines.Met as lines-met
 use Rattle.chuldariin.proofs.chuldariin_measure as measure-call
 use Rattle.chuldariin.proofs.chuldariin_measure.Symbol as measure-symbol
 use Rattle.chuldariin.proofs.chuldariin_measure.Met as measure-met
@@ -61,7 +65,11 @@ module _ {M : Type 1} (𝓤 : URA M) (H : Heap 𝓤) (𝓜 : Model 𝓤 H) (𝓖
   pub limit-promises : Promises limit-call.ended limit-symbol.routine (λ κs a r e. AnswersLent (record { time = a .1 .0; event = limit (a .1 .1 .0) }) (a .0) r (e .0))
   limit-promises = limit-met.met 𝓤 H 𝓜 𝓖 𝓡
 
-  pub measure-promises : Promises measure-call.ended measure-symbol.routine (λ κs a r e. AnswersLent (record { time = a .1 .0; event = measure (a .1 .1 .0) }) (a .0) r (e .0))
+  pub measure-lines-promises : Promises lines-call.ended lines-symbol.routine (λ κs a r e. AnswersLent (record { time = a .1 .0; event = measure (record { line1 = a .1 .1 .0; line2 = a .1 .1 .1 .0; line3 = a .1 .1 .1 .1 .0 }) }) (a .0) r (e .0))
+  measure-lines-promises = lines-met.met 𝓤 H 𝓜 𝓖 𝓡
+
+  -- one current: that of the call above, on line 1
+  pub measure-promises : Promises measure-call.ended measure-symbol.routine (λ κs a r e. AnswersLent (record { time = a .1 .0; event = measure (onLine1 (a .1 .1 .0)) }) (a .0) r (e .0))
   measure-promises = measure-met.met 𝓤 H 𝓜 𝓖 𝓡
 
   pub fault-promises : Promises fault-call.ended fault-symbol.routine (λ κs a r e. AnswersLent (record { time = a .1 .0; event = fault (a .1 .1 .0) }) (a .0) r (e .0))

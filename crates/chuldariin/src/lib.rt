@@ -2,6 +2,7 @@
 use controller::Controller;
 use parts::replies::Reply;
 ghost use Rattle.rules.specs.Calls.{sample, limit, measure, fault, clear, tick};
+ghost use Rattle.rules.specs.Lines.{onLine1};
 ghost use Rattle.chuldariin.specs.Lent.{AnswersLent, BeginsLent};
 
 pub mod duties; // duties.rt: duty and current, without a controller
@@ -43,10 +44,28 @@ pub extern "C" fn chuldariin_limit(c: &mut Controller, time: u64, current: u32) 
     s.reply
 }
 
-// The largest line current, in milliamps.
+// The current on each line, in milliamps.
+#[no_mangle]
+pub extern "C" fn chuldariin_measure_lines(
+    c: &mut Controller,
+    time: u64,
+    line1: u32,
+    line2: u32,
+    line3: u32,
+) -> Reply
+    ensures { λ r. ⌜
+        AnswersLent (record { time = time; event = measure (record { line1 = line1; line2 = line2; line3 = line3 }) }) (c .entry) r (c .exit)
+        ⌝ }
+{
+    let s = calls::measure_lines(*c, time, line1, line2, line3);
+    *c = s.controller;
+    s.reply
+}
+
+// One current, in milliamps: on line 1, and 0 on the others.
 #[no_mangle]
 pub extern "C" fn chuldariin_measure(c: &mut Controller, time: u64, current: u32) -> Reply
-    ensures { λ r. ⌜ AnswersLent (record { time = time; event = measure current }) (c .entry) r (c .exit) ⌝ }
+    ensures { λ r. ⌜ AnswersLent (record { time = time; event = measure (onLine1 current) }) (c .entry) r (c .exit) ⌝ }
 {
     let s = calls::measure(*c, time, current);
     *c = s.controller;

@@ -11,6 +11,7 @@ use Rattle.duty.specs.DutyFor.{IsGreatest}
 use Rattle.rules.specs.Answer.{begun, replyTo, lentAfter, repliesTo}
 use Rattle.rules.specs.Begin.{Begin, beginRefusal}
 use Rattle.rules.specs.Calls.{Call}
+use Rattle.rules.specs.LastMeasured.{LastMeasured}
 use Rattle.rules.specs.Lent.{altered}
 use Rattle.rules.specs.RefusalsAre.{RefusedBy}
 use Rattle.rules.specs.Replay.{replay}
@@ -74,6 +75,7 @@ module _ (begin : Begin) (calls : List Call) (begins : Reply) (replies : List Re
         each-answered = each-answered (run .fresh) calls replies final (run .lends);
         refusals = λ k below. ap (λ r. r .refusal) (replies-are (suc k) below) ∙ list .refusals k below;
         waves = λ k within. ap (λ r. r .wave) (replies-are k within) ∙ list .waves k within;
+        lines-are = λ k within. subst (LastMeasured begin calls k) (sym (ap (λ r. r .lines) (replies-are k within))) (list .lines-are k within);
         contactor-held =
             ap (λ l. l .state .closed) final-lent ∙ list .held (length calls) (omega arith) ∙ sym (ap (λ r. r .closed) whole);
         closings-held =

@@ -12,6 +12,7 @@ use Rattle.rules.specs.Calls.{Call}
 use Rattle.rules.specs.Claim.{Trace, leastPause, Demand3}
 use Rattle.rules.specs.Every20.{ClosedIsSound}
 use Rattle.rules.specs.EveryList.{Reached}
+use Rattle.rules.specs.LastMeasured.{LastMeasured}
 use Rattle.rules.specs.Lent.{Lent}
 use Rattle.rules.specs.Refusals.{refusal}
 use Rattle.rules.specs.RefusalsAre.{Altered, RefusedBy}
@@ -19,7 +20,7 @@ use Rattle.rules.specs.Replay.{replay}
 use Rattle.rules.specs.Step3Wave.{available}
 use Rattle.rules.specs.Traces.{noCall, before, callAt, traceOf, replyBefore}
 use Rattle.parts.specs.declared.replies.Reply.{Reply}
-use Rattle.parts.specs.Views.{asReply}
+use Rattle.parts.specs.Views.{asReply, asLines}
 use Rattle.controller.specs.declared.Controller.{Controller}
 use Rattle.controller.specs.View.{stateOf, view}
 
@@ -42,6 +43,8 @@ pub record EveryRun (begin : Begin) (calls : List Call) (beginReply : Reply) (re
   -- the refusal number is the table's (so 0 exactly if the table has none), and the wave the replay's
   pub refusals : (k : ℕ) → k < length calls → replied beginReply replies (suc k) .refusal ≡ refusal (before begin calls k) (callAt begin calls k)
   pub waves : (k : ℕ) → k ≤ length calls → replied beginReply replies k .wave ≡ before begin calls k .wave
+  -- the currents that it shows are those of the last accepted measure, or 0 (document 02, b)
+  pub lines-are : (k : ℕ) → k ≤ length calls → LastMeasured begin calls k (asLines (replied beginReply replies k .lines))
   -- demand 1: each number comes for its condition and for nothing else, and 1 never
   pub refused-by : (k : ℕ) → k < length calls → RefusedBy (lentOfReplies begin calls beginReply replies k) (getD calls k noCall) (replied beginReply replies (suc k) .refusal)
   pub never-1 : (k : ℕ) → k < length calls → _≡_ {A = ℕ} (replied beginReply replies (suc k) .refusal) 1 → ⊥

@@ -28,6 +28,7 @@ controllerOf lent =
       stop = record { set = s .stop .set; time = record { 0 = s .stop .time } };
       previous = record { kept = s .previous .kept; verdict = s .previous .verdict };
       closings = lent .closings;
+      lines = record { line1 = record { 0 = s .lines .line1 }; line2 = record { 0 = s .lines .line2 }; line3 = record { 0 = s .lines .line3 } };
     }
 
 pub view-of : (lent : Lent) → view (controllerOf lent) ≡ lent

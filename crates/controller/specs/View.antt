@@ -11,7 +11,7 @@ use Rattle.rules.specs.State.{State}
 use Rattle.rules.specs.Step5Closing.{closes, stepClosing}
 use Rattle.events.specs.declared.Event.{Event}
 use Rattle.parts.specs.Counted.{counted}
-use Rattle.parts.specs.Views.{asMoment, asPrevious, asSettings, asFaults}
+use Rattle.parts.specs.Views.{asMoment, asPrevious, asSettings, asFaults, asLines}
 use Rattle.events.specs.Views.{asEvent}
 use Rattle.controller.specs.declared.Controller.{Controller}
 
@@ -31,6 +31,7 @@ stateOf c =
       overrun = asMoment (c .overrun);
       stop = asMoment (c .stop);
       previous = asPrevious (c .previous);
+      lines = asLines (c .lines);
     }
 
 -- a controller as it is lent to a call: its state, and the closings that it carries

@@ -2,6 +2,7 @@
 use mathlib.Core.Bool.{false}
 use Prim.Native.Nat.{ℕ}
 use Rattle.rules.specs.Lent.{Lent}
+use Rattle.rules.specs.Lines.{noCurrents}
 use Rattle.rules.specs.State.{Settings, unsettled, noFaults, empty, forgotten}
 
 -- a controller with nothing stored but settings, wave and last accepted time
@@ -21,6 +22,7 @@ blank settings wave last =
         overrun = empty;
         stop = empty;
         previous = forgotten;
+        lines = noCurrents;
       };
       closings = 0;
     }

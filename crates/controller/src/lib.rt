@@ -1,5 +1,6 @@
 // The controller of a charging post: one struct, and its five steps.
 use parts::faults::Faults;
+use parts::lines::Lines;
 use parts::moments::Moment;
 use parts::samples;
 use parts::samples::Previous;
@@ -38,6 +39,8 @@ pub struct Controller {
     pub previous: Previous,
     // How often the contactor has closed since begin.
     pub closings: u32,
+    // The currents of the last accepted measure.
+    pub lines: Lines,
 }
 
 // A controller with nothing stored: no settled state, no previous sample, no fault, the contactor open.
@@ -47,6 +50,7 @@ pub fn blank(settings: Settings, wave: u32, last: Millis) -> Controller
     let faults = Faults::none();
     let empty = Moment::empty();
     let previous = samples::forgotten();
+    let lines = Lines::none();
     Controller {
         settings: settings,
         limit: Milliamps(0),
@@ -61,6 +65,7 @@ pub fn blank(settings: Settings, wave: u32, last: Millis) -> Controller
         stop: empty,
         previous: previous,
         closings: 0,
+        lines: lines,
     }
 }
 

@@ -29,11 +29,13 @@ impl Controller {
         let faults = events::faults_by(event, self.faults);
         let sound = events::sound_by(time, pair, self.sound);
         let overrun = events::overrun_by(time, event, self.closed, self.wave, self.overrun);
+        let lines = events::lines_by(event, self.lines);
         self.limit = limit;
         self.settled = settled;
         self.faults = faults;
         self.sound = sound;
         self.overrun = overrun;
+        self.lines = lines;
         self
     }
 

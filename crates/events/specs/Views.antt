@@ -2,6 +2,7 @@
 use Rattle.window.specs.Evaluation.{Evaluation}
 use Rattle.window.specs.Answers.{asEvaluation}
 use Rattle.rules.specs.Calls as calls
+use Rattle.parts.specs.Views.{asLines}
 use Rattle.events.specs.declared.Event.{Event}
 use Rattle.events.specs.declared.Event.the-variants.{Sample, Limit, Measure, Fault, Clear, Tick}
 
@@ -9,7 +10,7 @@ use Rattle.events.specs.declared.Event.the-variants.{Sample, Limit, Meas
 abbrev pub asEvent : Event → calls.Event Evaluation
 asEvent (Sample window) = calls.sample (asEvaluation window)
 asEvent (Limit current) = calls.limit (current .0)
-asEvent (Measure current) = calls.measure (current .0)
+asEvent (Measure lines) = calls.measure (asLines lines)
 asEvent (Fault kind) = calls.fault kind
 asEvent Clear = calls.clear
 asEvent Tick = calls.tick

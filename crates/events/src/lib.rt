@@ -1,6 +1,8 @@
 // Step 1 of an accepted call: its event. A call's kind and arguments, and what each kind does.
 use duty::Reading;
 use parts::faults::Faults;
+use parts::lines;
+use parts::lines::Lines;
 use parts::moments;
 use parts::moments::Moment;
 use parts::samples;
@@ -14,11 +16,12 @@ ghost use mathlib.Core.Path.{_≡_};
 ghost use mathlib.Core.Bool.{cond};
 ghost use Rattle.duty.specs.Answers.{asReads};
 ghost use Rattle.window.specs.Answers.{asEvaluation};
-ghost use Rattle.rules.specs.Calls.{isSample, isFault};
+ghost use Rattle.rules.specs.Calls.{isSample, isMeasure, isFault};
+ghost use Rattle.rules.specs.Lines.{noCurrents, largest};
 ghost use Rattle.rules.specs.Pairs.{windowVerdict, verdict};
 ghost use Rattle.rules.specs.State.{State};
-ghost use Rattle.rules.specs.Step1Event.{settledBy, soundBy, limitBy, faultsBy, currentOf, announced, isOver, overrunJudged, overrunAt, overrunBy};
-ghost use Rattle.parts.specs.Views.{asMoment, asPair, asFaults};
+ghost use Rattle.rules.specs.Step1Event.{settledBy, soundBy, limitBy, linesBy, faultsBy, currentOf, announced, isOver, overrunJudged, overrunAt, overrunBy};
+ghost use Rattle.parts.specs.Views.{asMoment, asPair, asFaults, asLines};
 ghost use Rattle.events.specs.Views.{asEvent};
 
 pub mod refusals; // refusals.rt: what a call is refused for
@@ -28,8 +31,8 @@ pub enum Event {
     Sample(Evaluated),
     // The depot's limit.
     Limit(Milliamps),
-    // The largest line current.
-    Measure(Milliamps),
+    // The current on each line.
+    Measure(Lines),
     // A fault's number.
     Fault(u32),
     Clear,
@@ -118,6 +121,42 @@ pub fn limit_by(event: Event, stored: Milliamps) -> Milliamps
     }
 }
 
+fn is_measure(event: Event) -> bool
+    ensures { λ r. ⌜ r ≡ isMeasure (asEvent event) ⌝ }
+{
+    match event {
+        Event::Sample(_) => false,
+        Event::Limit(_) => false,
+        Event::Measure(_) => true,
+        Event::Fault(_) => false,
+        Event::Clear => false,
+        Event::Tick => false,
+    }
+}
+
+// The currents of a measure; 0 where the call is none.
+fn lines_of(event: Event) -> Lines
+    ensures { λ r. ⌜ asLines r ≡ linesBy (asEvent event) noCurrents ⌝ }
+{
+    match event {
+        Event::Sample(_) => Lines::none(),
+        Event::Limit(_) => Lines::none(),
+        Event::Measure(lines) => lines,
+        Event::Fault(_) => Lines::none(),
+        Event::Clear => Lines::none(),
+        Event::Tick => Lines::none(),
+    }
+}
+
+// A measure's currents are kept, whatever the contactor and the wave.
+pub fn lines_by(event: Event, stored: Lines) -> Lines
+    ensures { λ r. ⌜ asLines r ≡ linesBy (asEvent event) (asLines stored) ⌝ }
+{
+    let measured = is_measure(event);
+    let given = lines_of(event);
+    lines::pick(measured, given, stored)
+}
+
 // Latching by a fault call, and clear.
 pub fn faults_by(event: Event, faults: Faults) -> Faults
     ensures { λ r. ⌜ asFaults r ≡ faultsBy (asEvent event) (asFaults faults) ⌝ }
@@ -176,10 +215,11 @@ fn judged_over(judges: bool, time: Millis, line: Milliamps, wave: u32, overrun: 
     }
 }
 
-// A measure is judged where the contactor is closed and the wave driven.
-fn measured(time: Millis, line: Milliamps, closed: bool, wave: u32, overrun: Moment) -> Moment
-    ensures { λ r. ⌜ asMoment r ≡ overrunAt (time .0) (line .0) closed wave (asMoment overrun) ⌝ }
+// A measure is judged, on the largest of its currents, where the contactor is closed and the wave driven.
+fn measured(time: Millis, lines: Lines, closed: bool, wave: u32, overrun: Moment) -> Moment
+    ensures { λ r. ⌜ asMoment r ≡ overrunAt (time .0) (largest (asLines lines)) closed wave (asMoment overrun) ⌝ }
 {
+    let line = lines.largest();
     let driven = units::driven(wave);
     let judges = conditions::both(closed, driven);
     judged_over(judges, time, line, wave, overrun)
@@ -195,7 +235,7 @@ pub fn overrun_by(time: Millis, event: Event, closed: bool, wave: u32, overrun: 
     match event {
         Event::Sample(_) => overrun,
         Event::Limit(_) => overrun,
-        Event::Measure(line) => measured(time, line, closed, wave, overrun),
+        Event::Measure(lines) => measured(time, lines, closed, wave, overrun),
         Event::Fault(_) => overrun,
         Event::Clear => overrun,
         Event::Tick => overrun,

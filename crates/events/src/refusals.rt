@@ -1,5 +1,6 @@
 // What a call is refused for: 3, then 2, then by number; 0 if it is accepted.
 use crate::Event;
+use parts::lines::Lines;
 use parts::settings;
 use parts::settings::Settings;
 use units::Milliamps;
@@ -12,8 +13,8 @@ ghost use Rattle.rules.specs.Calls.{limit, measure, fault};
 ghost use Rattle.window.specs.Answers.{asEvaluation};
 ghost use Rattle.rules.specs.Begin.{tooLate, beginRefusal};
 ghost use Rattle.rules.specs.Lent.{countAllowed, waveAllowed};
-ghost use Rattle.rules.specs.Refusals.{orElse, timeRefusal, windowRefusal, kindAllowed, limitAllowed, measureAllowed, argumentRefusal};
-ghost use Rattle.parts.specs.Views.{beginsWith};
+ghost use Rattle.rules.specs.Refusals.{orElse, timeRefusal, windowRefusal, kindAllowed, limitAllowed, argumentRefusal};
+ghost use Rattle.parts.specs.Views.{asLines, beginsWith};
 ghost use Rattle.events.specs.Views.{asEvent};
 
 // The first number, or the second where the first is 0.
@@ -71,12 +72,6 @@ pub fn limit_allowed(current: Milliamps) -> bool
     current.0 <= 80000
 }
 
-fn measure_allowed(current: Milliamps) -> bool
-    ensures { λ r. ⌜ r ≡ measureAllowed (current .0) ⌝ }
-{
-    current.0 <= 200000
-}
-
 fn kind_allowed(kind: u32) -> bool
     ensures { λ r. ⌜ r ≡ kindAllowed kind ⌝ }
 {
@@ -121,10 +116,10 @@ fn limit_refusal(current: Milliamps) -> u8
     number_unless(allowed, 7)
 }
 
-fn measure_refusal(current: Milliamps) -> u8
-    ensures { λ r. ⌜ r ≡ argumentRefusal (measure (current .0)) ⌝ }
+fn measure_refusal(lines: Lines) -> u8
+    ensures { λ r. ⌜ r ≡ argumentRefusal (measure (asLines lines)) ⌝ }
 {
-    let allowed = measure_allowed(current);
+    let allowed = lines.allowed();
     number_unless(allowed, 7)
 }
 
@@ -142,7 +137,7 @@ pub fn argument_refusal(event: Event) -> u8
     match event {
         Event::Sample(window) => window_refusal(window),
         Event::Limit(current) => limit_refusal(current),
-        Event::Measure(current) => measure_refusal(current),
+        Event::Measure(lines) => measure_refusal(lines),
         Event::Fault(kind) => kind_refusal(kind),
         Event::Clear => 0,
         Event::Tick => 0,

@@ -28,6 +28,9 @@ fn altered(mut c: Controller, field: u64, value: u64) -> Controller {
         words::LIMIT => c.limit.0 = number,
         words::WAVE => c.wave = number,
         words::CLOSINGS => c.closings = number,
+        words::LINE1 => c.lines.line1.0 = number,
+        words::LINE2 => c.lines.line2.0 = number,
+        words::LINE3 => c.lines.line3.0 = number,
         words::SOUND => {
             c.sound.set = true;
             c.sound.time.0 = value;
@@ -89,6 +92,18 @@ fn sample(c: Controller, word: u64, last: u64, window: &[i32]) -> Answer {
     calls::sample(held, last, window)
 }
 
+// A measure with one current, or with one for each line.
+fn measure(r: Row, c: Controller) -> Answer {
+    let line1 = narrow(r.b);
+    let line2 = narrow(r.c);
+    let line3 = narrow(r.d);
+    if r.lines {
+        calls::measure_lines(c, r.a, line1, line2, line3)
+    } else {
+        calls::measure(c, r.a, line1)
+    }
+}
+
 // The answer to a call; a row that is none hands back what it was lent.
 pub fn answer(r: Row, c: Controller, window: &[i32]) -> Answer {
     let word = r.word;
@@ -97,7 +112,7 @@ pub fn answer(r: Row, c: Controller, window: &[i32]) -> Answer {
         words::BEGIN => calls::begin(c, r.a, number, r.c, r.d == words::YES),
         words::SAMPLE | words::SAMPLES => sample(c, word, r.a, window),
         words::LIMIT => calls::limit(c, r.a, number),
-        words::MEASURE => calls::measure(c, r.a, number),
+        words::MEASURE => measure(r, c),
         words::FAULT => calls::fault(c, r.a, number),
         words::CLEAR => calls::clear(c, r.a),
         words::TICK => calls::tick(c, r.a),

@@ -19,6 +19,10 @@ pub const FAULT: [u8; 24] = *b"  fault |               ";
 
 pub const CLOSINGS: [u8; 24] = *b"  closings |            ";
 
+pub const LINES: [u8; 24] = *b"  lines |               ";
+
+pub const SPACE: [u8; 24] = *b" |                      ";
+
 pub const UNCHANGED: [u8; 24] = *b"  controller unchanged| ";
 
 pub const CHANGED: [u8; 24] = *b"  controller changed|   ";

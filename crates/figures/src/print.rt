@@ -2,6 +2,7 @@
 use crate::phrases;
 use crate::text;
 use libc::STDOUT_FILENO;
+use parts::lines::Lines;
 use parts::replies::Reply;
 
 pub fn bytes(bytes: &[u8]) {
@@ -59,6 +60,13 @@ fn wave(n: u32) {
     amount(phrases::NOTHING, n as u64);
 }
 
+// The current on each line.
+fn currents(lines: Lines) {
+    amount(phrases::LINES, lines.line1.0 as u64);
+    amount(phrases::SPACE, lines.line2.0 as u64);
+    amount(phrases::SPACE, lines.line3.0 as u64);
+}
+
 fn shown(r: Reply) {
     let letter = [b' ', b' ', r.letter];
     bytes(&letter);
@@ -67,6 +75,8 @@ fn shown(r: Reply) {
     either(r.closed, phrases::CLOSED, phrases::OPEN);
     amount(phrases::FAULT, r.fault as u64);
     amount(phrases::CLOSINGS, r.closings as u64);
+    let lines = r.lines;
+    currents(lines);
 }
 
 // A refusal that comes alone has no letter.

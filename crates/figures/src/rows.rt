@@ -13,6 +13,8 @@ pub struct Row {
     pub d: u64,
     // How many readings its window has.
     pub readings: usize,
+    // A measure brings a current for each line.
+    pub lines: bool,
 }
 
 // The form of a row with that word. A level may be below 0, and a window has any number of them, but not none.
@@ -20,7 +22,11 @@ fn wanted(word: u64, a: u64, d: u64, readings: usize, form: u64) -> u64 {
     match word {
         words::KEEP | words::KEPT | words::ZEROED => 10000,
         words::AVAILABLE | words::READING | words::CLEAR | words::TICK => 10100,
-        words::LIMIT | words::MEASURE | words::FAULT => 10200,
+        words::LIMIT | words::FAULT => 10200,
+        words::MEASURE => match form {
+            10400 => 10400,
+            _ => 10200,
+        },
         words::BEGIN => match d {
             words::YES | words::NO => 20300,
             _ => 0,
@@ -28,6 +34,7 @@ fn wanted(word: u64, a: u64, d: u64, readings: usize, form: u64) -> u64 {
         words::WITH => match a {
             words::RATED | words::PAUSE | words::LIMIT | words::WAVE | words::CLOSINGS => 20100,
             words::SOUND | words::OPENING | words::OVERRUN | words::STOP => 20100,
+            words::LINE1 | words::LINE2 | words::LINE3 => 20100,
             _ => 0,
         },
         words::LOW => match form {
@@ -75,5 +82,6 @@ pub fn read(line: &[u8], window: &mut [i32]) -> Row {
         c: c.value,
         d: d.value,
         readings: end.readings,
+        lines: end.form == 10400,
     }
 }

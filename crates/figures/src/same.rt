@@ -29,5 +29,8 @@ pub fn controllers(a: Controller, b: Controller) -> bool {
     same &= a.previous.verdict.proven == b.previous.verdict.proven;
     same &= a.previous.verdict.diodebad == b.previous.verdict.diodebad;
     same &= a.closings == b.closings;
+    same &= a.lines.line1.0 == b.lines.line1.0;
+    same &= a.lines.line2.0 == b.lines.line2.0;
+    same &= a.lines.line3.0 == b.lines.line3.0;
     same
 }

@@ -55,3 +55,9 @@ pub const OPENING: u64 = 0x6f70656e696e67;
 pub const OVERRUN: u64 = 0x6f76657272756e;
 
 pub const STOP: u64 = 0x73746f70;
+
+pub const LINE1: u64 = 0x6c696e6531;
+
+pub const LINE2: u64 = 0x6c696e6532;
+
+pub const LINE3: u64 = 0x6c696e6533;

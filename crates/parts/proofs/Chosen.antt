@@ -2,12 +2,18 @@
 use mathlib.Core.Path.{_≡_, refl}
 use mathlib.Core.Bool.{Bool, true, false, cond}
 use Prim.Native.Nat.{ℕ}
+use Rattle.rules.specs.Lines.{Lines}
 use Rattle.rules.specs.State.{Moment, Previous, startedBy}
 
 pub moment-chosen : (first : Bool) (a b : Moment)
     → record { set = cond first (a .set) (b .set); time = cond first (a .time) (b .time) } ≡ cond first a b
 moment-chosen true a b = refl
 moment-chosen false a b = refl
+
+pub lines-chosen : (first : Bool) (a b : Lines)
+    → record { line1 = cond first (a .line1) (b .line1); line2 = cond first (a .line2) (b .line2); line3 = cond first (a .line3) (b .line3) } ≡ cond first a b
+lines-chosen true a b = refl
+lines-chosen false a b = refl
 
 pub previous-chosen : (first : Bool) (a b : Previous)
     → record {

@@ -1,10 +1,12 @@
 -- What the structs of this crate stand for in the definitions of crate rules. Field by field, so nothing is lost.
 use Rattle.units.specs.declared.Millis.{Millis}
 use Rattle.rules.specs.Begin as begins
+use Rattle.rules.specs.Lines as lines
 use Rattle.rules.specs.Pairs as pairs
 use Rattle.rules.specs.Reply as replies
 use Rattle.rules.specs.State as state
 use Rattle.parts.specs.declared.faults.Faults.{Faults}
+use Rattle.parts.specs.declared.lines.Lines.{Lines}
 use Rattle.parts.specs.declared.moments.Moment.{Moment}
 use Rattle.parts.specs.declared.replies.Reply.{Reply}
 use Rattle.parts.specs.declared.samples.Pair.{Pair}
@@ -43,6 +45,10 @@ asFaults f =
       temperature = f .temperature;
     }
 
+-- the current on each line
+abbrev pub asLines : Lines → lines.Lines
+asLines l = record { line1 = l .line1 .0; line2 = l .line2 .0; line3 = l .line3 .0 }
+
 -- the reply
 abbrev pub asReply : Reply → replies.Reply
 asReply r =
@@ -54,4 +60,5 @@ asReply r =
       closed = r .closed;
       fault = r .fault;
       closings = r .closings;
+      lines = asLines (r .lines);
     }

@@ -1,4 +1,5 @@
 // The reply: what is shown of a controller, beside the refusal number.
+use crate::lines::Lines;
 use crate::samples;
 use units::conditions;
 ghost use mathlib.Core.Path.{_≡_};
@@ -19,6 +20,8 @@ pub struct Reply {
     // some latched fault, 0 if none
     pub fault: u8,
     pub closings: u32,
+    // those of the last accepted measure
+    pub lines: Lines,
 }
 
 fn letter_by(faulted: bool, known: bool, settled: u8) -> u8
@@ -69,6 +72,7 @@ pub fn digit(letter: u8, wave: u32) -> u8
 pub fn alone(number: u8) -> Reply
     ensures { λ r. ⌜ asReply r ≡ alone number ⌝ }
 {
+    let none = Lines::none();
     Reply {
         refusal: number,
         letter: 0,
@@ -77,5 +81,6 @@ pub fn alone(number: u8) -> Reply
         closed: false,
         fault: 0,
         closings: 0,
+        lines: none,
     }
 }

@@ -10,9 +10,9 @@ ghost use Rattle.parts.specs.Views.{asSettings};
 
 #[repr(C)]
 pub struct Settings {
-    pub rated: Milliamps,
     // In a controller, as it is in force; as given to begin, 0 asks for 10,000.
     pub pause: Millis,
+    pub rated: Milliamps,
     pub ventilation: bool,
 }
 

@@ -72,7 +72,7 @@ kind-latches time pair s (fault kind) f right is same =
     (kind-is kind (not-refused (kindAllowed kind) 8 (omega arith) right)))
 kind-latches time pair s (sample window) f right is same = clash refl (sym is)
 kind-latches time pair s (limit given) f right is same = clash refl (sym is)
-kind-latches time pair s (measure line) f right is same = clash refl (sym is)
+kind-latches time pair s (measure lines) f right is same = clash refl (sym is)
 kind-latches time pair s clear f right is same = clash refl (sym is)
 kind-latches time pair s tick f right is same = clash refl (sym is)
 

@@ -23,6 +23,7 @@ pub mod Opened
 pub mod Held
 pub mod Reaching
 pub mod Every20
+pub mod LastMeasured
 pub mod EveryList
 pub mod Altered
 pub mod RefusalsAre

@@ -21,7 +21,7 @@ module _ (s : State) (time : ℕ) (was : s .closed ≡ false) where
   unfolding overrunBy overrunAt
   overrun-open (sample window) = refl
   overrun-open (limit given) = refl
-  overrun-open (measure line) = rw was
+  overrun-open (measure lines) = rw was
   overrun-open (fault kind) = refl
   overrun-open clear = refl
   overrun-open tick = refl

@@ -14,6 +14,7 @@ use Rattle.rules.specs.Accepted.{pairAt, opensAt, afterLatch, afterWave,
 use Rattle.rules.specs.Begin.{ratedAllowed, pauseAllowed}
 use Rattle.rules.specs.Calls.{Event, sample, limit, measure, fault, clear, tick, EvaluatedCall}
 use Rattle.rules.specs.Lent.{waveAllowed, storedAllowed, timesAllowed, inRange}
+use Rattle.rules.specs.Lines.{largest}
 use Rattle.rules.specs.Refusals.{limitAllowed, argumentRefusal}
 use Rattle.rules.specs.Replay.{isAccepted}
 use Rattle.rules.specs.State.{State, Moment, empty, setTo, startedBy}
@@ -96,9 +97,9 @@ module _ (s : State) (call : EvaluatedCall) where
   unfolding overrunBy overrunAt
   overrun-stored (sample window) p = p
   overrun-stored (limit given) p = p
-  overrun-stored (measure line) p =
+  overrun-stored (measure lines) p =
       either-stored (call .time) (s .closed && driven (s .wave)) _ (s .overrun)
-      (either-stored (call .time) (isOver line (announced (s .wave))) _ empty (started-stored (call .time) (s .overrun) p) (none-stored (call .time))) p
+      (either-stored (call .time) (isOver (largest lines) (announced (s .wave))) _ empty (started-stored (call .time) (s .overrun) p) (none-stored (call .time))) p
   overrun-stored (fault kind) p = p
   overrun-stored clear p = p
   overrun-stored tick p = p
@@ -107,7 +108,7 @@ module _ (s : State) (call : EvaluatedCall) where
   unfolding limitBy argumentRefusal
   limit-right (sample window) e p = p
   limit-right (limit given) e p = not-refused (limitAllowed given) 7 (omega arith) e
-  limit-right (measure line) e p = p
+  limit-right (measure lines) e p = p
   limit-right (fault kind) e p = p
   limit-right clear e p = p
   limit-right tick e p = p

@@ -1,6 +1,6 @@
 -- When each refusal number comes, exactly.
 use mathlib.Core.Path.{_≡_, refl, sym, _∙_, ap}
-use mathlib.Core.Bool.{Bool, true, false, cond}
+use mathlib.Core.Bool.{Bool, true, false, _&&_, cond}
 use mathlib.Core.List.{List}
 use mathlib.Core.Logic.{_↔_, _⊎_, inl, inr}
 use Prim.Native.Nat.{ℕ, _≤_, _<_}
@@ -15,8 +15,9 @@ use Rattle.window.proofs.Laws.{refused-exactly}
 use Rattle.rules.specs.Begin.{largestTime}
 use Rattle.rules.specs.Calls.{Event, Call, sample, limit, measure, fault, clear, tick, evaluated, evaluatedCall}
 use Rattle.rules.specs.Lent.{Lent, altered, lentRefusal}
-use Rattle.rules.specs.RefusalsAre.{Altered, OnTime, ArgumentsAsked, WrongFor, RefusedBy}
-use Rattle.rules.specs.Refusals.{orElse, timeRefusal, windowRefusal, kindAllowed, limitAllowed, measureAllowed, argumentRefusal}
+use Rattle.rules.specs.Lines.{Lines, lineAllowed, linesAllowed}
+use Rattle.rules.specs.RefusalsAre.{Altered, OnTime, ArgumentsAsked, AnyLineAbove, WrongFor, RefusedBy}
+use Rattle.rules.specs.Refusals.{orElse, timeRefusal, windowRefusal, kindAllowed, limitAllowed, argumentRefusal}
 use Rattle.rules.proofs.Altered.{altered-exactly}
 use Rattle.rules.proofs.Booleans.{clash}
 
@@ -56,19 +57,35 @@ refused-if false number n Wrong means big = (λ e. (sym e, means .0 refl), λ e.
 above-exactly : (current most : ℕ) → (leb current most ≡ false) ↔ (most < current)
 above-exactly current most = (leb-false current most, lt-leb current most)
 
+-- one of two tests fails
+not-both : (a b : Bool) (P Q : Type 0) → (a ≡ false) ↔ P → (b ≡ false) ↔ Q → (a && b ≡ false) ↔ (P ⊎ Q)
+not-both true true P Q p q = (λ e. clash refl e, λ known. none known)
+  where
+    none : P ⊎ Q → true ≡ false
+    none (inl known) = p .1 known
+    none (inr known) = q .1 known
+not-both true false P Q p q = (λ e. inr (q .0 refl), λ known. refl)
+not-both false b P Q p q = (λ e. inl (p .0 refl), λ known. refl)
+
+any-line-exactly : (lines : Lines) → (linesAllowed lines ≡ false) ↔ AnyLineAbove lines
+unfolding linesAllowed lineAllowed
+any-line-exactly lines =
+    not-both (leb (lines .line1) 200000) _ (200000 < lines .line1) _ (above-exactly (lines .line1) 200000)
+    (not-both (leb (lines .line2) 200000) (leb (lines .line3) 200000) (200000 < lines .line2) (200000 < lines .line3) (above-exactly (lines .line2) 200000) (above-exactly (lines .line3) 200000))
+
 refused-with : (w : Evaluation) (n : ℕ) → 4 ≤ n → (windowRefusal w ≡ n) ↔ (w ≡ refused n)
 refused-with (levels high low) n big = (λ e. absurd (omega arith), λ e. ap windowRefusal e)
 refused-with (refused number) n big = (λ e. ap refused e, λ e. ap windowRefusal e)
 
 -- the arguments' refusal, number by number
 arguments : (event : Event (List ℤ)) (n : ℕ) → 4 ≤ n → (argumentRefusal (evaluated event) ≡ n) ↔ WrongFor n event
-unfolding evaluated argumentRefusal limitAllowed measureAllowed kindAllowed
+unfolding evaluated argumentRefusal limitAllowed kindAllowed
 arguments (sample window) n big = (
   λ e. refused-exactly window n .0 (refused-with (evaluate window) n big .0 e),
   λ wrong. refused-with (evaluate window) n big .1 (refused-exactly window n .1 wrong),
 )
 arguments (limit current) n big = refused-if (leb current 80000) 7 n (80000 < current) (above-exactly current 80000) big
-arguments (measure current) n big = refused-if (leb current 200000) 7 n (200000 < current) (above-exactly current 200000) big
+arguments (measure lines) n big = refused-if (linesAllowed lines) 7 n (AnyLineAbove lines) (any-line-exactly lines) big
 arguments (fault kind) n big = refused-if (fromTo 3 5 kind) 8 n (Outside 3 5 kind) (outside-exactly 3 5 kind) big
 arguments clear n big = (λ e. absurd (omega arith), λ e. absurd e)
 arguments tick n big = (λ e. absurd (omega arith), λ e. absurd e)
@@ -86,7 +103,7 @@ wrong-number (sample window) n (inl (is, out)) = (omega arith, omega arith)
 wrong-number (sample window) n (inr (inl (is, one))) = (omega arith, omega arith)
 wrong-number (sample window) n (inr (inr (is, none))) = (omega arith, omega arith)
 wrong-number (limit current) n (is, out) = (omega arith, omega arith)
-wrong-number (measure current) n (is, out) = (omega arith, omega arith)
+wrong-number (measure lines) n (is, out) = (omega arith, omega arith)
 wrong-number (fault kind) n (is, out) = (omega arith, omega arith)
 wrong-number clear n none = absurd none
 wrong-number tick n none = absurd none
@@ -99,7 +116,7 @@ argument-number : (event : Event (List ℤ)) → Known (argumentRefusal (evaluat
 unfolding evaluated argumentRefusal
 argument-number (sample window) = window-number window (evaluate window) refl
 argument-number (limit current) = known-if (limitAllowed current) 7 (omega arith) (omega arith)
-argument-number (measure current) = known-if (measureAllowed current) 7 (omega arith) (omega arith)
+argument-number (measure lines) = known-if (linesAllowed lines) 7 (omega arith) (omega arith)
 argument-number (fault kind) = known-if (kindAllowed kind) 8 (omega arith) (omega arith)
 argument-number clear = inl refl
 argument-number tick = inl refl

@@ -103,7 +103,7 @@ module _ (s : State) where
   verdict-fits (sample (levels high low)) e = sound-fits high (s .wave) low e
   verdict-fits (sample (refused number)) e = refl
   verdict-fits (limit given) e = refl
-  verdict-fits (measure line) e = refl
+  verdict-fits (measure lines) e = refl
   verdict-fits (fault kind) e = refl
   verdict-fits clear e = refl
   verdict-fits tick e = refl
@@ -113,7 +113,7 @@ module _ (s : State) where
   verdict-sound (sample (levels high low)) e = proven-sound high (s .wave) low (s .settings .ventilation) e
   verdict-sound (sample (refused number)) e = e
   verdict-sound (limit given) e = e
-  verdict-sound (measure line) e = e
+  verdict-sound (measure lines) e = e
   verdict-sound (fault kind) e = e
   verdict-sound clear e = e
   verdict-sound tick e = e
@@ -123,7 +123,7 @@ module _ (s : State) where
   verdict-ready (sample (levels high low)) e = proven-ready high (s .wave) low (s .settings .ventilation) e
   verdict-ready (sample (refused number)) e = both-ways (sym e)
   verdict-ready (limit given) e = both-ways (sym e)
-  verdict-ready (measure line) e = both-ways (sym e)
+  verdict-ready (measure lines) e = both-ways (sym e)
   verdict-ready (fault kind) e = both-ways (sym e)
   verdict-ready clear e = both-ways (sym e)
   verdict-ready tick e = both-ways (sym e)

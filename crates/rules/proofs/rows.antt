@@ -2,6 +2,7 @@
 pub mod Squares
 pub mod Sequences
 pub mod BenchRows
+pub mod LineRows
 pub mod OtherRows
 pub mod StateRows
 pub mod RangeRows

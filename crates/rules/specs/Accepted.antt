@@ -26,6 +26,7 @@ stepEnd forgot time pair s =
       overrun = s .overrun;
       stop = s .stop;
       previous = cond (pair .sampled && not forgot) (keptSample (pair .this)) (s .previous);
+      lines = s .lines;
     }
 
 module _ (s : State) (call : EvaluatedCall) where

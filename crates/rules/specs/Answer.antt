@@ -7,6 +7,7 @@ use Rattle.rules.specs.Accepted.{accept, closesAt}
 use Rattle.rules.specs.Begin.{Begin, beginRefusal, fresh}
 use Rattle.rules.specs.Calls.{Call, EvaluatedCall, evaluatedCall, inTurn}
 use Rattle.rules.specs.Lent.{Lent, lentRefusal}
+use Rattle.rules.specs.Lines.{noCurrents}
 use Rattle.rules.specs.Reply.{Reply, shown}
 use Rattle.rules.specs.Step5Closing.{closingsBy}
 
@@ -38,7 +39,7 @@ answerTo lent call = record { lent = next lent call; reply = replyTo lent call }
 
 -- a refusal that comes alone: zeros beside the number
 abbrev pub alone : ℕ → Reply
-alone number = record { refusal = number; letter = 0; digit = 0; wave = 0; closed = false; fault = 0; closings = 0 }
+alone number = record { refusal = number; letter = 0; digit = 0; wave = 0; closed = false; fault = 0; closings = 0; lines = noCurrents }
 
 -- begin, lent any controller: accepted, the fresh one and what is shown of it; refused, the lent one, and the number alone
 unfoldable pub answerToBegin : Lent → Begin → Answer

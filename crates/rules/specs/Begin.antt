@@ -4,6 +4,7 @@ use Prim.Native.Nat.{ℕ}
 use lib.Dec.{eqb, ltb}
 use Rattle.units.specs.Range.{fromTo}
 use Rattle.units.specs.Wave.{steadyHigh}
+use Rattle.rules.specs.Lines.{noCurrents}
 use Rattle.rules.specs.State.{State, Settings, unsettled, noFaults, empty, forgotten}
 
 -- begin's values: time, rated current, pause, ventilation
@@ -63,4 +64,5 @@ fresh begin =
       overrun = empty;
       stop = empty;
       previous = forgotten;
+      lines = noCurrents;
     }

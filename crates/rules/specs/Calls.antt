@@ -4,12 +4,13 @@ use mathlib.Core.List.{List, [], _∷_}
 use Prim.Native.Nat.{ℕ}
 use lib.IntN.{ℤ}
 use Rattle.window.specs.Evaluation.{Evaluation, evaluate}
+use Rattle.rules.specs.Lines.{Lines}
 
 -- kind and arguments of a call; a sample's window is its readings or, once evaluated, its levels or refusal
 pub data Event (Window : Type 0) : Type 0 where
   sample : Window → Event Window
   limit : ℕ → Event Window
-  measure : ℕ → Event Window
+  measure : Lines → Event Window
   fault : ℕ → Event Window
   clear : Event Window
   tick : Event Window
@@ -28,7 +29,7 @@ pub record EvaluatedCall : Type 0 where
 unfoldable pub evaluated : Event (List ℤ) → Event Evaluation
 evaluated (sample window) = sample (evaluate window)
 evaluated (limit current) = limit current
-evaluated (measure current) = measure current
+evaluated (measure lines) = measure lines
 evaluated (fault kind) = fault kind
 evaluated clear = clear
 evaluated tick = tick
@@ -46,16 +47,25 @@ inTurn one s (call ∷ calls) = inTurn one (one s (evaluatedCall call)) calls
 abbrev pub isSample : Event Evaluation → Bool
 isSample (sample window) = true
 isSample (limit current) = false
-isSample (measure current) = false
+isSample (measure lines) = false
 isSample (fault kind) = false
 isSample clear = false
 isSample tick = false
+
+-- a measure
+abbrev pub isMeasure : {Window : Type 0} → Event Window → Bool
+isMeasure (sample window) = false
+isMeasure (limit current) = false
+isMeasure (measure lines) = true
+isMeasure (fault kind) = false
+isMeasure clear = false
+isMeasure tick = false
 
 -- a fault call
 abbrev pub isFault : Event Evaluation → Bool
 isFault (sample window) = false
 isFault (limit current) = false
-isFault (measure current) = false
+isFault (measure lines) = false
 isFault (fault kind) = true
 isFault clear = false
 isFault tick = false

@@ -12,6 +12,7 @@ use Rattle.rules.specs.Begin.{Begin, pauseFor, fresh}
 use Rattle.rules.specs.Calls.{Call}
 use Rattle.rules.specs.Claim.{leastPause, Demand3}
 use Rattle.rules.specs.Every20.{ClosedIsSound}
+use Rattle.rules.specs.LastMeasured.{LastMeasured}
 use Rattle.rules.specs.Lent.{altered}
 use Rattle.rules.specs.Refusals.{refusal}
 use Rattle.rules.specs.State.{State, anyFault}
@@ -47,6 +48,8 @@ pub record EveryList (begin : Begin) (calls : List Call) : Type 0 where
   -- each reply's refusal number is the table's, and its wave the replay's
   pub refusals : (k : ℕ) → k < length calls → replyBefore begin calls (suc k) .refusal ≡ refusal (before begin calls k) (callAt begin calls k)
   pub waves : (k : ℕ) → k ≤ length calls → replyBefore begin calls k .wave ≡ before begin calls k .wave
+  -- the currents that it shows are those of the last accepted measure, or 0
+  pub lines-are : (k : ℕ) → k ≤ length calls → LastMeasured begin calls k (replyBefore begin calls k .lines)
   -- the controller keeps what the replay keeps, and holds the contactor and the closings that were last told; refusal 1 never names it
   pub states-are : (k : ℕ) → k ≤ length calls → lentAt begin calls k .state ≡ before begin calls k
   pub held : (k : ℕ) → k ≤ length calls → lentAt begin calls k .state .closed ≡ replyBefore begin calls k .closed

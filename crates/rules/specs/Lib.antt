@@ -1,4 +1,5 @@
 -- The controller of document 01, and what is claimed of every list of calls.
+pub mod Lines
 pub mod State
 pub mod Calls
 pub mod Begin
@@ -17,5 +18,6 @@ pub mod Answer
 pub mod Claim
 pub mod Traces
 pub mod Every20
+pub mod LastMeasured
 pub mod EveryList
 pub mod RefusalsAre

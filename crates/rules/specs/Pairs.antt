@@ -24,7 +24,7 @@ windowVerdict wave ventilation (refused number) = noVerdict
 unfoldable pub verdict : State → Event Evaluation → Verdict
 verdict s (sample window) = windowVerdict (s .wave) (s .settings .ventilation) window
 verdict s (limit current) = noVerdict
-verdict s (measure current) = noVerdict
+verdict s (measure lines) = noVerdict
 verdict s (fault kind) = noVerdict
 verdict s clear = noVerdict
 verdict s tick = noVerdict

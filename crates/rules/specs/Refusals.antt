@@ -6,6 +6,7 @@ use Rattle.units.specs.Range.{fromTo}
 use Rattle.window.specs.Evaluation.{Evaluation, levels, refused}
 use Rattle.rules.specs.Begin.{tooLate}
 use Rattle.rules.specs.Calls.{Event, sample, limit, measure, fault, clear, tick, EvaluatedCall}
+use Rattle.rules.specs.Lines.{linesAllowed}
 use Rattle.rules.specs.State.{State}
 
 -- the first number, or the second where the first is 0
@@ -29,15 +30,11 @@ kindAllowed kind = fromTo 3 5 kind
 unfoldable pub limitAllowed : ℕ → Bool
 limitAllowed current = leb current 80000
 
--- the range of a measure: 0 to 200,000
-unfoldable pub measureAllowed : ℕ → Bool
-measureAllowed current = leb current 200000
-
 -- 4 to 8, for the arguments
 unfoldable pub argumentRefusal : Event Evaluation → ℕ
 argumentRefusal (sample window) = windowRefusal window
 argumentRefusal (limit current) = cond (limitAllowed current) 0 7
-argumentRefusal (measure current) = cond (measureAllowed current) 0 7
+argumentRefusal (measure lines) = cond (linesAllowed lines) 0 7
 argumentRefusal (fault kind) = cond (kindAllowed kind) 0 8
 argumentRefusal clear = 0
 argumentRefusal tick = 0

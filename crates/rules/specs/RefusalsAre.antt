@@ -12,6 +12,7 @@ use Rattle.window.specs.Laws.{RefusedFor}
 use Rattle.rules.specs.Begin.{Begin, largestTime}
 use Rattle.rules.specs.Calls.{Event, Call, sample, limit, measure, fault, clear, tick}
 use Rattle.rules.specs.Lent.{Lent, mostClosings}
+use Rattle.rules.specs.Lines.{Lines}
 use Rattle.rules.specs.State.{Moment}
 
 -- a wave out of its range: neither steady nor driven
@@ -42,11 +43,15 @@ OnTime lent call = (call .time ≤ largestTime) × (lent .state .last ≤ call .
 abbrev pub ArgumentsAsked : Lent → Call → Type 0
 ArgumentsAsked lent call = OnTime lent call × (Altered lent → ⊥)
 
+-- the current on any of the three lines is above 200,000
+abbrev pub AnyLineAbove : Lines → Type 0
+AnyLineAbove lines = (200000 < lines .line1) ⊎ ((200000 < lines .line2) ⊎ (200000 < lines .line3))
+
 -- the numbers by which each kind of call is refused for its arguments, and what each is for
 abbrev pub WrongFor : ℕ → Event (List ℤ) → Type 0
 WrongFor number (sample window) = RefusedFor number window
 WrongFor number (limit current) = (number ≡ 7) × (80000 < current)
-WrongFor number (measure current) = (number ≡ 7) × (200000 < current)
+WrongFor number (measure lines) = (number ≡ 7) × AnyLineAbove lines
 WrongFor number (fault kind) = (number ≡ 8) × Outside 3 5 kind
 WrongFor number clear = ⊥
 WrongFor number tick = ⊥

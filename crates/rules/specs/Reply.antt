@@ -5,10 +5,11 @@ use lib.Dec.{eqb}
 use Rattle.units.specs.Wave.{driven}
 use Rattle.pilot.specs.Bands.{bandE}
 use Rattle.rules.specs.Lent.{Lent}
+use Rattle.rules.specs.Lines.{Lines}
 use Rattle.rules.specs.State.{State, Faults, anyFault}
 use Rattle.rules.specs.Step3Wave.{isSettled}
 
--- the reply: refusal number (0 if accepted), letter, digit, wave, contactor, fault, closings
+-- the reply: refusal number (0 if accepted), letter, digit, wave, contactor, fault, closings, and the current on each line
 pub record Reply : Type 0 where
   pub refusal : ℕ
   pub letter : ℕ
@@ -17,6 +18,7 @@ pub record Reply : Type 0 where
   pub closed : Bool
   pub fault : ℕ
   pub closings : ℕ
+  pub lines : Lines
 
 -- F: a fault is latched; letters are in ASCII
 abbrev pub letterF : ℕ
@@ -58,4 +60,5 @@ shown number lent =
       closed = lent .state .closed;
       fault = faultShown (lent .state .faults);
       closings = lent .closings;
+      lines = lent .state .lines;
     }

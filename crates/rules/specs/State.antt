@@ -4,6 +4,7 @@ use Prim.Native.Nat.{ℕ}
 use Rattle.units.specs.Range.{ago, longerAgo}
 use Rattle.pilot.specs.declared.verdicts.Verdict.{Verdict}
 use Rattle.pilot.specs.Bands.{noBand}
+use Rattle.rules.specs.Lines.{Lines}
 
 -- a time or a start that is set, or empty; the number of an empty one says nothing
 pub record Moment : Type 0 where
@@ -94,3 +95,5 @@ pub record State : Type 0 where
   pub overrun : Moment
   pub stop : Moment
   pub previous : Previous
+  -- the three currents of the last accepted measure
+  pub lines : Lines

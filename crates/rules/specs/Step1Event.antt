@@ -6,6 +6,7 @@ use Rattle.units.specs.Wave.{driven}
 use Rattle.duty.specs.Reading.{Reads, noCharging, digitalOnly, current, refused, readingOf}
 use Rattle.window.specs.Evaluation.{Evaluation}
 use Rattle.rules.specs.Calls.{Event, sample, limit, measure, fault, clear, tick}
+use Rattle.rules.specs.Lines.{Lines, largest}
 use Rattle.rules.specs.Pairs.{Pair, inOneBand}
 use Rattle.rules.specs.State.{State, Moment, Faults, noFaults, empty, setTo, startedBy}
 
@@ -21,10 +22,19 @@ soundBy time pair sound = cond (pair .sampled && pair .this .sound) (setTo time)
 unfoldable pub limitBy : Event Evaluation → ℕ → ℕ
 limitBy (sample window) stored = stored
 limitBy (limit given) stored = given
-limitBy (measure line) stored = stored
+limitBy (measure lines) stored = stored
 limitBy (fault kind) stored = stored
 limitBy clear stored = stored
 limitBy tick stored = stored
+
+-- the three currents: a measure's are kept, whatever the contactor and the wave (document 02, b)
+unfoldable pub linesBy : Event Evaluation → Lines → Lines
+linesBy (sample window) stored = stored
+linesBy (limit given) stored = stored
+linesBy (measure lines) stored = lines
+linesBy (fault kind) stored = stored
+linesBy clear stored = stored
+linesBy tick stored = stored
 
 -- the faults with that of a fault call
 unfoldable pub withKind : ℕ → Faults → Faults
@@ -41,7 +51,7 @@ withKind kind faults =
 unfoldable pub faultsBy : Event Evaluation → Faults → Faults
 faultsBy (sample window) faults = faults
 faultsBy (limit given) faults = faults
-faultsBy (measure line) faults = faults
+faultsBy (measure lines) faults = faults
 faultsBy (fault kind) faults = withKind kind faults
 faultsBy clear faults = noFaults
 faultsBy tick faults = faults
@@ -69,16 +79,16 @@ overrunJudged time line allowed overrun = cond (isOver line allowed) (startedBy 
 unfoldable pub overrunAt : ℕ → ℕ → Bool → ℕ → Moment → Moment
 overrunAt time line closed wave overrun = cond (closed && driven wave) (overrunJudged time line (announced wave) overrun) overrun
 
--- the over-run: only a measure starts or ends it here
+-- the over-run: only a measure starts or ends it here, by the largest of its three currents
 unfoldable pub overrunBy : ℕ → Event Evaluation → State → Moment
 overrunBy time (sample window) s = s .overrun
 overrunBy time (limit given) s = s .overrun
-overrunBy time (measure line) s = overrunAt time line (s .closed) (s .wave) (s .overrun)
+overrunBy time (measure lines) s = overrunAt time (largest lines) (s .closed) (s .wave) (s .overrun)
 overrunBy time (fault kind) s = s .overrun
 overrunBy time clear s = s .overrun
 overrunBy time tick s = s .overrun
 
--- step 1: settling, the last sound sample, limit, faults and over-run; the rest stays
+-- step 1: settling, the last sound sample, limit, faults, over-run and currents; the rest stays
 abbrev pub stepEvent : ℕ → Event Evaluation → Pair → State → State
 stepEvent time event pair s =
     record {
@@ -94,4 +104,5 @@ stepEvent time event pair s =
       overrun = overrunBy time event s;
       stop = s .stop;
       previous = s .previous;
+      lines = linesBy event (s .lines);
     }

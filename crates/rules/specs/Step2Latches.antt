@@ -48,4 +48,5 @@ stepLatch faultCall time pair s =
       overrun = s .overrun;
       stop = s .stop;
       previous = cond (unsettles faultCall time pair s) forgotten (s .previous);
+      lines = s .lines;
     }

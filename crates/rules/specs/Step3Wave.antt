@@ -67,4 +67,5 @@ stepWave time s =
       overrun = overrunUnder (waveFor s) (s .overrun);
       stop = stopUnder time (waveFor s) (s .closed) (s .stop);
       previous = s .previous;
+      lines = s .lines;
     }

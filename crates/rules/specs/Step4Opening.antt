@@ -50,4 +50,5 @@ stepOpening time pair s =
       overrun = cond (opens time pair s) empty (s .overrun);
       stop = cond (opens time pair s) empty (s .stop);
       previous = cond (opens time pair s) forgotten (s .previous);
+      lines = s .lines;
     }

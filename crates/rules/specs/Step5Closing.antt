@@ -34,4 +34,5 @@ stepClosing opened time pair s =
       overrun = s .overrun;
       stop = s .stop;
       previous = s .previous;
+      lines = s .lines;
     }

@@ -12,6 +12,7 @@ use Rattle.pilot.specs.Bands.{bandC, noBand, bandOf}
 use Rattle.pilot.specs.Verdicts.{sound}
 use Rattle.rules.specs.Begin.{Begin, ratedAllowed, beginRefusal}
 use Rattle.rules.specs.Lent.{Lent}
+use Rattle.rules.specs.Lines.{noCurrents}
 use Rattle.rules.specs.Reply.{Reply, letterU, shown}
 use Rattle.rules.specs.State.{noFaults, empty, setTo, forgotten}
 use Rattle.rules.specs.Answer.{lentAfter, repliesTo}
@@ -68,6 +69,7 @@ afterFirstCharge =
         overrun = empty;
         stop = empty;
         previous = forgotten;
+        lines = noCurrents;
       };
       closings = 1;
     }
@@ -77,7 +79,7 @@ abbrev pub firstChargeRun : Row
 firstChargeRun =
     runs
     (record { time = 0; rated = 32000; pause = 0; ventilation = false })
-    (record { refusal = 0; letter = letterU; digit = 0; wave = 1000; closed = false; fault = 0; closings = 0 })
+    (record { refusal = 0; letter = letterU; digit = 0; wave = 1000; closed = false; fault = 0; closings = 0; lines = noCurrents })
     (firstCharge .entries)
     afterFirstCharge
 
@@ -117,7 +119,7 @@ final-computed : lentAfter (at32A 0) calls ≡ afterFirstCharge
 unfolding computed
 final-computed = lent-on (at32A 0) (map (λ entry. entry .call) (firstCharge .entries)) refl
 
-begun-computed : shown 0 (at32A 0) ≡ record { refusal = 0; letter = letterU; digit = 0; wave = 1000; closed = false; fault = 0; closings = 0 }
+begun-computed : shown 0 (at32A 0) ≡ record { refusal = 0; letter = letterU; digit = 0; wave = 1000; closed = false; fault = 0; closings = 0; lines = noCurrents }
 unfolding computed
 begun-computed = refl
 

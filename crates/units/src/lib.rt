@@ -4,7 +4,7 @@ pub mod conditions; // conditions.rt: conditions put together
 
 ghost use mathlib.Core.Path.{_≡_};
 ghost use mathlib.Core.Bool.{cond};
-ghost use Prim.Native.Nat.{min};
+ghost use Prim.Native.Nat.{min, max};
 ghost use lib.Dec.{leb, ltb};
 ghost use lib.Signed.{leZ, ltZ};
 ghost use Rattle.units.specs.Range.{within, strictlyBetween, ago, longerAgo, higher, lower};
@@ -85,6 +85,12 @@ impl Milliamps {
         ensures { λ r. ⌜ r .0 ≡ min (self .0) (other .0) ⌝ }
     {
         if self.0 <= other.0 { self } else { other }
+    }
+
+    pub fn greater(self, other: Milliamps) -> Milliamps
+        ensures { λ r. ⌜ r .0 ≡ max (self .0) (other .0) ⌝ }
+    {
+        if self.0 <= other.0 { other } else { self }
     }
 }
 

@@ -36,6 +36,11 @@ impl Archive {
         unsafe { raw::chuldariin_measure(&mut self.controller, time, current) }
     }
 
+    pub fn measure_lines(&mut self, time: u64, lines: [u32; 3]) -> Reply {
+        let [line1, line2, line3] = lines;
+        unsafe { raw::chuldariin_measure_lines(&mut self.controller, time, line1, line2, line3) }
+    }
+
     pub fn fault(&mut self, time: u64, kind: u32) -> Reply {
         unsafe { raw::chuldariin_fault(&mut self.controller, time, kind) }
     }
@@ -53,7 +58,9 @@ impl Archive {
         match *event {
             Event::Sample(window) => self.sample(time, window),
             Event::Limit(current) => self.limit(time, current),
-            Event::Measure(current) => self.measure(time, current),
+            // One current, by the call that takes one.
+            Event::Measure([current, 0, 0]) => self.measure(time, current),
+            Event::Measure(lines) => self.measure_lines(time, lines),
             Event::Fault(kind) => self.fault(time, kind),
             Event::Clear => self.clear(time),
             Event::Tick => self.tick(time),

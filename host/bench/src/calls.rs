@@ -19,7 +19,7 @@ struct Kind {
 }
 
 /// Calls that leave a controller as it was, but for what they store.
-const IN_PLACE: [Kind; 3] = [
+const IN_PLACE: [Kind; 4] = [
     Kind {
         name: "tick",
         archive: |archive, _| archive.tick(DRIVEN_TO),
@@ -35,7 +35,13 @@ const IN_PLACE: [Kind; 3] = [
     Kind {
         name: "measure",
         archive: |archive, current| archive.measure(DRIVEN_TO, current),
-        event: Event::Measure,
+        event: Event::measure_one,
+        values: measures,
+    },
+    Kind {
+        name: "measure, 3 lines",
+        archive: |archive, current| archive.measure_lines(DRIVEN_TO, uneven(current)),
+        event: |current| Event::Measure(uneven(current)),
         values: measures,
     },
 ];
@@ -64,6 +70,11 @@ pub fn limits() -> Vec<u32> {
 /// Measures below and above what wave 533 allows, mA.
 pub fn measures() -> Vec<u32> {
     changing(0, 70_000)
+}
+
+/// The lines of a van that loads the second most, mA.
+pub fn uneven(current: u32) -> [u32; 3] {
+    [current / 2, current, current / 3]
 }
 
 fn changing(least: i32, greatest: i32) -> Vec<u32> {

@@ -2,7 +2,7 @@
 //!
 //! The counts of N and of 2N calls differ by N calls and their loop.
 
-use crate::calls::{limits, measures};
+use crate::calls::{limits, measures, uneven};
 use crate::drive::{charging, idle, Pair, DRIVEN_TO};
 use crate::options::Options;
 use crate::readings::{self, Order};
@@ -17,6 +17,7 @@ pub enum Counted {
     Tick,
     Limit,
     Measure,
+    MeasureLines,
 }
 
 impl Counted {
@@ -27,6 +28,7 @@ impl Counted {
             "tick" => Some(Counted::Tick),
             "limit" => Some(Counted::Limit),
             "measure" => Some(Counted::Measure),
+            "measure-lines" => Some(Counted::MeasureLines),
             _ => None,
         }
     }
@@ -44,7 +46,11 @@ pub fn run(counted: Counted, calls: usize, options: &Options) {
         Counted::SampleClean => samples(pair, &readings::charging(20, 1_024), calls, rust),
         Counted::Tick => others(pair, |_| Event::Tick, &[0], calls, rust),
         Counted::Limit => others(pair, Event::Limit, &limits(), calls, rust),
-        Counted::Measure => others(pair, Event::Measure, &measures(), calls, rust),
+        Counted::Measure => others(pair, Event::measure_one, &measures(), calls, rust),
+        Counted::MeasureLines => {
+            let event = |current| Event::Measure(uneven(current));
+            others(pair, event, &measures(), calls, rust);
+        }
     }
 }
 

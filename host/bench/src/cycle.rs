@@ -63,9 +63,9 @@ fn calls(windows: &Windows) -> Vec<(u64, Event<'_>)> {
         if time == STOP {
             calls.push((time, Event::Limit(0)));
         }
-        calls.push((time + 5, Event::Measure(current_at(time))));
+        calls.push((time + 5, Event::measure_one(current_at(time))));
         calls.push((time + 10, Event::Tick));
-        calls.push((time + 15, Event::Measure(current_at(time))));
+        calls.push((time + 15, Event::measure_one(current_at(time))));
     }
     calls
 }

@@ -4,7 +4,7 @@ use crate::count::Counted;
 
 pub const USAGE: &str = "\
 chuldariin-bench [--quick] [--only window|calls|cycle|growth]
-chuldariin-bench --count sample-worst|sample-clean|tick|limit|measure N [--rust] [--idle]
+chuldariin-bench --count sample-worst|sample-clean|tick|limit|measure|measure-lines N [--rust] [--idle]
 
   --quick   few short rounds, to see that it runs
   --only    one of the four parts

@@ -139,7 +139,16 @@ impl Post {
         reply::accepted(unsafe { raw::chuldariin_limit(&mut self.controller, time.0, current.0) })
     }
 
-    /// The largest line current measured, 0 to 200,000 mA.
+    /// The current measured on each line, line 1 first, 0 to 200,000 mA each.
+    pub fn measure_lines(&mut self, time: Millis, lines: [Milliamps; 3]) -> Result<Reply, Refusal> {
+        let [line1, line2, line3] = lines.map(|line| line.0);
+        // SAFETY: as in begin_again.
+        reply::accepted(unsafe {
+            raw::chuldariin_measure_lines(&mut self.controller, time.0, line1, line2, line3)
+        })
+    }
+
+    /// One current, 0 to 200,000 mA: [`Post::measure_lines`] with that current on line 1, and 0 on the others.
     pub fn measure(&mut self, time: Millis, current: Milliamps) -> Result<Reply, Refusal> {
         // SAFETY: as in begin_again.
         reply::accepted(unsafe { raw::chuldariin_measure(&mut self.controller, time.0, current.0) })
@@ -172,7 +181,8 @@ impl Post {
     }
 
     /// A post with this controller, whatever it holds. The next call refuses one whose wave, limit,
-    /// rated current, pause, stored times or closings are out of range; any other is taken as it is.
+    /// rated current, pause, stored times or closings are out of range; any other is taken as it is,
+    /// also with currents that no measure could have brought.
     pub fn with(controller: raw::Controller) -> Post {
         Post { controller }
     }

@@ -7,10 +7,10 @@
 #[repr(C)]
 #[derive(Clone, Copy, Debug, PartialEq, Eq)]
 pub struct Settings {
-    /// Rated current of the post, mA.
-    pub rated: u32,
     /// Least time between an opening and the next closing, ms.
     pub pause: u64,
+    /// Rated current of the post, mA.
+    pub rated: u32,
     /// Whether the post has ventilation.
     pub ventilation: bool,
 }
@@ -61,6 +61,22 @@ pub struct Previous {
     pub verdict: Verdict,
 }
 
+/// The current on each line, mA.
+#[repr(C)]
+#[derive(Clone, Copy, Debug, PartialEq, Eq)]
+pub struct Lines {
+    pub line1: u32,
+    pub line2: u32,
+    pub line3: u32,
+}
+
+impl Lines {
+    /// Line 1 first.
+    pub fn each(self) -> [u32; 3] {
+        [self.line1, self.line2, self.line3]
+    }
+}
+
 /// What the host keeps, and lends to each call.
 #[repr(C)]
 #[derive(Clone, Copy, Debug, PartialEq, Eq)]
@@ -88,6 +104,8 @@ pub struct Controller {
     pub previous: Previous,
     /// How often the contactor has closed since begin.
     pub closings: u32,
+    /// The currents of the last accepted measure.
+    pub lines: Lines,
 }
 
 impl Controller {
@@ -99,8 +117,8 @@ impl Controller {
         };
         Controller {
             settings: Settings {
-                rated: 0,
                 pause: 0,
+                rated: 0,
                 ventilation: false,
             },
             limit: 0,
@@ -129,6 +147,11 @@ impl Controller {
                 },
             },
             closings: 0,
+            lines: Lines {
+                line1: 0,
+                line2: 0,
+                line3: 0,
+            },
         }
     };
 }
@@ -151,6 +174,8 @@ pub struct Reply {
     pub fault: u8,
     /// How often the contactor has closed since begin.
     pub closings: u32,
+    /// The currents of the last accepted measure.
+    pub lines: Lines,
 }
 
 /// What a van reads from a duty: `struct chuldariin_reading_reply`.
@@ -190,6 +215,13 @@ extern "C" {
         count: usize,
     ) -> Reply;
     pub fn chuldariin_limit(c: *mut Controller, time: u64, current: u32) -> Reply;
+    pub fn chuldariin_measure_lines(
+        c: *mut Controller,
+        time: u64,
+        line1: u32,
+        line2: u32,
+        line3: u32,
+    ) -> Reply;
     pub fn chuldariin_measure(c: *mut Controller, time: u64, current: u32) -> Reply;
     pub fn chuldariin_fault(c: *mut Controller, time: u64, kind: u32) -> Reply;
     pub fn chuldariin_clear(c: *mut Controller, time: u64) -> Reply;
@@ -202,16 +234,18 @@ extern "C" {
 const _: () = {
     use std::mem::{align_of, offset_of, size_of};
     assert!(size_of::<Controller>() == 128 && align_of::<Controller>() == 8);
-    assert!(size_of::<Reply>() == 16 && align_of::<Reply>() == 4);
-    assert!(size_of::<Settings>() == 24 && size_of::<Moment>() == 16);
+    assert!(size_of::<Reply>() == 28 && align_of::<Reply>() == 4);
+    assert!(size_of::<Lines>() == 12 && align_of::<Lines>() == 4);
+    assert!(size_of::<Settings>() == 16 && size_of::<Moment>() == 16);
     assert!(size_of::<Faults>() == 5 && size_of::<Verdict>() == 4 && size_of::<Previous>() == 5);
     assert!(size_of::<ReadingReply>() == 8 && size_of::<DutyReply>() == 8);
-    assert!(offset_of!(Controller, limit) == 24 && offset_of!(Controller, wave) == 28);
-    assert!(offset_of!(Controller, closed) == 32 && offset_of!(Controller, settled) == 33);
-    assert!(offset_of!(Controller, faults) == 34 && offset_of!(Controller, last) == 40);
-    assert!(offset_of!(Controller, sound) == 48 && offset_of!(Controller, opening) == 64);
-    assert!(offset_of!(Controller, overrun) == 80 && offset_of!(Controller, stop) == 96);
-    assert!(offset_of!(Controller, previous) == 112 && offset_of!(Controller, closings) == 120);
+    assert!(offset_of!(Controller, limit) == 16 && offset_of!(Controller, wave) == 20);
+    assert!(offset_of!(Controller, closed) == 24 && offset_of!(Controller, settled) == 25);
+    assert!(offset_of!(Controller, faults) == 26 && offset_of!(Controller, last) == 32);
+    assert!(offset_of!(Controller, sound) == 40 && offset_of!(Controller, opening) == 56);
+    assert!(offset_of!(Controller, overrun) == 72 && offset_of!(Controller, stop) == 88);
+    assert!(offset_of!(Controller, previous) == 104 && offset_of!(Controller, closings) == 112);
+    assert!(offset_of!(Controller, lines) == 116 && offset_of!(Reply, lines) == 16);
     assert!(offset_of!(Reply, wave) == 4 && offset_of!(Reply, closed) == 8);
     assert!(offset_of!(Reply, fault) == 9 && offset_of!(Reply, closings) == 12);
 };

@@ -77,7 +77,7 @@ impl Refusal {
             Refusal::Unsupported => {
                 "no reading has 8 readings, itself counted, within 200 mV: look for noise on the pilot line, and tick for this one"
             }
-            Refusal::Current => "give a limit up to 80,000 mA, or a measured current up to 200,000 mA: is the unit milliamps?",
+            Refusal::Current => "give a limit up to 80,000 mA, or measured currents up to 200,000 mA each: is the unit milliamps?",
             Refusal::Kind => "tell residual current (3), welded contact (4) or over-temperature (5): the controller finds 1 and 2 itself",
             Refusal::Duty => "ask for a duty up to 1000: the unit is a tenth of a percent",
             Refusal::TooLow => "ask for 6,000 mA or more: no duty announces less",

@@ -15,6 +15,8 @@ pub struct Reply {
     pub fault: Option<Fault>,
     /// How often the contactor has closed since begin.
     pub closings: u32,
+    /// The current on each line, line 1 first, as the last accepted measure brought them; 0 before the first.
+    pub lines: [Milliamps; 3],
 }
 
 /// The state as the standard writes it: B1, C2, U, F ..
@@ -90,6 +92,7 @@ pub(crate) fn accepted(reply: raw::Reply) -> Result<Reply, Refusal> {
         closed: reply.closed,
         fault: Fault::of(reply.fault),
         closings: reply.closings,
+        lines: reply.lines.each().map(Milliamps),
     })
 }
 

@@ -1,4 +1,5 @@
-//! The wrapper over the archive: the refusals of the calls by name, and a controller that they leave alone; the stored pause; a fault and its end.
+//! The wrapper over the archive: the refusals of the calls by name, and a controller that they leave alone; the stored pause; a fault and
+//! its end; the current on each line.
 use chuldariin::{Begin, Fault, Milliamps, Millis, Post, Refusal, Reply};
 
 const BEGIN: Begin = Begin {
@@ -47,7 +48,7 @@ type Call<'a> = &'a dyn Fn(&mut Post) -> Result<Reply, Refusal>;
 fn every_refusal_leaves_the_controller_alone() {
     let post = charging();
     let uneven: Vec<i32> = (0..256).map(|i| -15_000 + (i % 100) * 300).collect();
-    let refused: [(Refusal, Call); 9] = [
+    let refused: [(Refusal, Call); 10] = [
         (Refusal::Settings, &|p| {
             p.begin_again(Begin {
                 pause: Millis(999),
@@ -64,6 +65,9 @@ fn every_refusal_leaves_the_controller_alone() {
         }),
         (Refusal::Current, &|p| {
             p.measure(Millis(50), Milliamps(200_001))
+        }),
+        (Refusal::Current, &|p| {
+            p.measure_lines(Millis(50), [0, 0, 200_001].map(Milliamps))
         }),
         (Refusal::Kind, &|p| p.fault(Millis(50), Fault::Overcurrent)),
     ];
@@ -99,6 +103,22 @@ fn a_fault_opens_and_clear_begins_again_from_u() {
         (reply.state.to_string().as_str(), reply.wave, reply.fault),
         ("U", 1_000, None)
     );
+}
+
+#[test]
+fn the_last_measure_is_shown_line_by_line() {
+    let mut post = charging();
+    let lines = [1_000, 36_000, 2_000].map(Milliamps);
+    let reply = post.measure_lines(Millis(50), lines).expect("in range");
+    assert_eq!(reply.lines, lines);
+    assert_eq!(post.controller().lines.each(), [1_000, 36_000, 2_000]);
+    // The largest is above 1.1 times what 533 announces.
+    assert!(post.controller().overrun.set);
+    let reply = post.tick(Millis(60)).expect("a later time");
+    assert_eq!(reply.lines, lines);
+    let reply = post.measure(Millis(70), Milliamps(5)).expect("in range");
+    assert_eq!(reply.lines, [5, 0, 0].map(Milliamps));
+    assert!(!post.controller().overrun.set);
 }
 
 #[test]

@@ -1,7 +1,7 @@
 //! What happened in a call, and why: closings, openings with their causes, latches, over-runs and stops.
 
 use crate::turn::{Sample, Turn};
-use crate::words::{faults, grouped, letter, refusal, why_steady, FAULTS, NUMERALS};
+use crate::words::{faults, grouped, largest, letter, refusal, why_steady, FAULTS, NUMERALS};
 use chuldariin_log::Call;
 use chuldariin_model::{reading, Reading, State, OVERRUN_AGE, STOP_AGE};
 
@@ -196,9 +196,9 @@ pub fn closed(turn: &Turn) -> String {
 /// An over-run that starts, or that ends without a fault.
 fn overrun(turn: &Turn, notes: &mut Vec<Note>) {
     let words = match (turn.before.overrun, turn.after.overrun, turn.call) {
-        (None, Some(start), Call::Measure(_, current)) => format!(
-            "over-run starts: {} mA is above {}; fault 2 at {} unless it ends",
-            grouped(*current),
+        (None, Some(start), call) => format!(
+            "over-run starts: {} is above {}; fault 2 at {} unless it ends",
+            drawn(call),
             allowed(&turn.before),
             start + OVERRUN_AGE
         ),
@@ -208,6 +208,18 @@ fn overrun(turn: &Turn, notes: &mut Vec<Note>) {
         _ => return,
     };
     notes.push(note(Kind::Event, words));
+}
+
+/// What was judged of a measure: its current, or the largest of three with its line.
+fn drawn(call: &Call) -> String {
+    match call {
+        Call::Measure(_, current) => format!("{} mA", grouped(*current)),
+        Call::MeasureLines(_, lines) => {
+            let (line, current) = largest(*lines);
+            format!("{} mA on line {line}", grouped(current))
+        }
+        _ => unreachable!("only a measure starts an over-run"),
+    }
 }
 
 /// The largest current that is no over-run: 1.1 times the announced one.

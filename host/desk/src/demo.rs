@@ -38,11 +38,11 @@ impl Day {
         }
     }
 
-    /// A van that is ready, with a measured current every half second.
-    fn charging(&mut self, measured: u32, long: u64) {
+    /// A van that is ready, with a measure every half second: of one current, or of three lines.
+    fn charging(&mut self, measured: &str, long: u64) {
         for _ in 0..long / 500 {
             self.samples(6_000, -12_000, 500);
-            self.call("measure", &measured.to_string());
+            self.call("measure", measured);
         }
     }
 }
@@ -70,7 +70,7 @@ fn first_charge(day: &mut Day) {
     day.call("limit", "32000");
     day.samples(9_000, 9_000, 40);
     day.samples(9_000, -12_000, 400);
-    day.charging(31_200, 3_000);
+    day.charging("31200", 3_000);
 }
 
 fn withdrawn(day: &mut Day) {
@@ -111,8 +111,8 @@ fn bad_diode(day: &mut Day) {
 }
 
 fn over_current(day: &mut Day) {
-    day.comment("5. This van draws more than 1.1 times what is announced, for 5 s.");
-    day.charging(36_500, 5_500);
+    day.comment("5. This van draws more than 1.1 times what is announced, on the second of three lines, for 5 s.");
+    day.charging("24100 36500 21800", 5_500);
     day.samples(6_000, -12_000, 20);
     day.comment("   A clock that goes back: the call is refused, and changes nothing.");
     day.text.push_str("tick 1000\n");
@@ -126,9 +126,9 @@ fn recovery(day: &mut Day) {
     day.call("clear", "");
     day.samples(9_000, 9_000, 40);
     day.samples(9_000, -12_000, 300);
-    day.charging(31_000, 4_000);
+    day.charging("31000 20400 18700", 4_000);
     day.call("limit", "20000");
-    day.charging(19_500, 2_000);
+    day.charging("19500 13100 12200", 2_000);
     day.samples(9_000, -12_000, 200);
     day.samples(12_000, -12_000, 40);
     day.samples(12_000, 12_000, 400);

@@ -17,7 +17,7 @@ use std::io::Write;
 #[derive(Clone, Copy, Debug, PartialEq, Eq)]
 pub enum Only {
     All,
-    /// Those where the reply changed or something happened.
+    /// Those where the reply changed, but for the currents of a measure, or something happened.
     Changes,
 }
 
@@ -91,6 +91,7 @@ impl Since {
             true => {
                 raw::Reply {
                     refusal: 0,
+                    lines: turn.reply.lines,
                     ..before
                 } != turn.reply
                     || !notes.is_empty()

@@ -3,8 +3,8 @@
 use crate::causes::{Kind, Note};
 use crate::paint::{Colour, Paint};
 use crate::turn::Turn;
-use crate::words::{call, letter, reply_fault, wave};
-use chuldariin_log::{Entry, Line};
+use crate::words::{call, letter, lines, reply_fault, wave};
+use chuldariin_log::{Call, Entry, Line};
 use chuldariin_model::Verdict;
 use std::io::{self, Write};
 
@@ -13,6 +13,8 @@ pub struct Table {
     paint: Paint,
     line_width: usize,
     time_width: usize,
+    /// A measure has a current for each line, so there is a column for them.
+    three_lines: bool,
 }
 
 impl Table {
@@ -28,13 +30,15 @@ impl Table {
             paint,
             line_width: last_line.to_string().len().max(4),
             time_width: last_time.to_string().len().max(5),
+            three_lines: entries.iter().any(three_lines),
         }
     }
 
     pub fn heading(&self, out: &mut impl Write) -> io::Result<()> {
         let text = format!(
-            "{:>line$}  {:>time$}  {:<24}  {:<10}  {:<5}  {:<16}  {:<9}  {:<19}  {:>8}  what happened",
+            "{:>line$}  {:>time$}  {:<24}  {:<10}  {:<5}  {:<16}  {:<9}  {:<19}  {:>8}{}  what happened",
             "line", "ms", "call", "sample", "state", "wave", "contactor", "fault", "closings",
+            self.lines_column("lines 1, 2, 3 (mA)"),
             line = self.line_width,
             time = self.time_width,
         );
@@ -57,6 +61,11 @@ impl Table {
             time = self.time_width,
         )?;
         self.reply_columns(out, turn)?;
+        let column = self.lines_column(&shown_lines(turn));
+        match notes.is_empty() {
+            true => write!(out, "{}", column.trim_end())?,
+            false => write!(out, "{column}")?,
+        }
         for (place, note) in notes.iter().enumerate() {
             let apart = if place == 0 { "  " } else { "; " };
             write!(out, "{apart}{}", self.note(note))?;
@@ -67,8 +76,7 @@ impl Table {
     /// What the reply tells.
     fn reply_columns(&self, out: &mut impl Write, turn: &Turn) -> io::Result<()> {
         let reply = &turn.reply;
-        // A refused begin comes alone, and before the first begin nothing is commanded.
-        if reply.letter == 0 || !turn.begun && !turn.accepted() {
+        if tells_nothing(turn) {
             let none = "-";
             return write!(
                 out,
@@ -91,6 +99,14 @@ impl Table {
         )
     }
 
+    /// What stands in the column for the lines, if there is one.
+    fn lines_column(&self, words: &str) -> String {
+        match self.three_lines {
+            true => format!("  {words:<20}"),
+            false => String::new(),
+        }
+    }
+
     fn note(&self, note: &Note) -> String {
         match note.kind {
             Kind::Closed => self
@@ -103,6 +119,24 @@ impl Table {
             Kind::Event => note.words.clone(),
         }
     }
+}
+
+/// A refused begin comes alone, and before the first begin nothing is commanded.
+fn tells_nothing(turn: &Turn) -> bool {
+    turn.reply.letter == 0 || !turn.begun && !turn.accepted()
+}
+
+/// The current on each line, as the reply shows it.
+fn shown_lines(turn: &Turn) -> String {
+    match tells_nothing(turn) {
+        true => "-".to_string(),
+        false => lines(turn.reply.lines.each()),
+    }
+}
+
+/// Is it a measure with a current for each line?
+fn three_lines(entry: &Entry) -> bool {
+    matches!(entry.what, Line::Call(Call::MeasureLines(..)))
 }
 
 /// Letter and digit: C2, U.

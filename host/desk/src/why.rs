@@ -6,7 +6,7 @@ use crate::input::Log;
 use crate::paint::{Colour, Paint};
 use crate::table::state;
 use crate::turn::{Post, Turn};
-use crate::words::{call, grouped, wave};
+use crate::words::{call, grouped, lines, wave};
 use std::error::Error;
 use std::fmt;
 use std::io::{self, Write};
@@ -131,11 +131,20 @@ fn heading(
     let contactor = if last.reply.closed { "closed" } else { "open" };
     writeln!(
         out,
-        "state {}, wave {}, contactor {contactor}, closings {}\n",
+        "state {}, wave {}, contactor {contactor}, closings {}{}\n",
         state(last.reply.letter, last.reply.digit),
         wave(last.reply.wave),
-        last.reply.closings
+        last.reply.closings,
+        drawn(last)
     )
+}
+
+/// The current on each line, where there is any.
+fn drawn(last: &Turn) -> String {
+    match last.reply.lines.each() {
+        [0, 0, 0] => String::new(),
+        each => format!(", last measure {} mA", lines(each)),
+    }
 }
 
 /// How long before the time that was asked for.

@@ -148,6 +148,7 @@ pub fn call(turn: &Turn) -> String {
         (Call::Sample(_, window), None) => format!("window of {}", grouped(window.length() as u64)),
         (Call::Limit(_, current), _) => format!("limit {} mA", grouped(*current)),
         (Call::Measure(_, current), _) => format!("measure {} mA", grouped(*current)),
+        (Call::MeasureLines(..), _) => "measure on 3 lines".to_string(),
         (Call::Fault(_, kind @ 1..=5), _) => format!("fault {kind} {}", fault(*kind as u8)),
         (Call::Fault(_, kind), _) => format!("fault {}", grouped(*kind)),
         (Call::Clear(_), _) => "clear".to_string(),
@@ -176,10 +177,33 @@ pub fn refusal(turn: &Turn) -> String {
             format!("no reading has {ENOUGH} readings, itself counted, within {NEAR} mV")
         }
         (7, Call::Limit(..)) => "a limit is at most 80,000 mA".to_string(),
+        (7, Call::MeasureLines(_, lines)) => above(lines),
         (7, _) => "a measured current is at most 200,000 mA".to_string(),
         (8, _) => "the host may tell faults 3, 4 and 5".to_string(),
         (number, _) => format!("refusal {number}"),
     }
+}
+
+/// The currents on the three lines, mA.
+pub fn lines(lines: [u32; 3]) -> String {
+    lines.map(grouped).join(" ")
+}
+
+/// The line with the largest current, and that current; of equal ones the first.
+pub fn largest(lines: [u32; 3]) -> (usize, u32) {
+    let most = lines[0].max(lines[1]).max(lines[2]);
+    let place = lines.iter().position(|&line| line == most);
+    (place.unwrap_or(0) + 1, most)
+}
+
+/// The lines whose currents are out of range.
+fn above(lines: &[u32; 3]) -> String {
+    let above = lines.iter().enumerate().filter(|line| *line.1 > 200_000);
+    let words: Vec<String> = above
+        .map(|(place, &line)| format!("{} mA on line {}", grouped(line), place + 1))
+        .collect();
+    let measured = words.join(", ");
+    format!("{measured}: a measured current is at most 200,000 mA")
 }
 
 /// What is out of range at begin.

@@ -18,6 +18,10 @@ fn rare_calls() {
         ("begin 50 80001 0 no\n", "7 ", "  REFUSED 1: rated 80,001 mA is not 6,000 to 80,000"),
         ("begin 50 80000 60001 no\n", "7 ", "  REFUSED 1: pause 60,001 ms is neither 0 nor 1,000 to 60,000"),
         ("sample 50 6000 -20000\n", "7 ", "REFUSED 5: reading 129 is -20,000 mV, where -15,000 to 15,000 are allowed"),
+        ("measure 50 31000 35179 0\n", "7 ", "over-run starts: 35,179 mA on line 2 is above 35,178 (1.1 x 31,980); fault 2 at 5050 unless it ends"),
+        ("measure 50 9 36000 36000\n", "7 ", "over-run starts: 36,000 mA on line 2 is above 35,178 (1.1 x 31,980); fault 2 at 5050 unless it ends"),
+        ("measure 50 0 0 200001\n", "7 ", "REFUSED 7: 200,001 mA on line 3: a measured current is at most 200,000 mA"),
+        ("measure 50 300000 1 200001\n", "7 ", "REFUSED 7: 300,000 mA on line 1, 200,001 mA on line 3: a measured current is at most 200,000 mA"),
         ("window 50 1 2\n", "7 ", "REFUSED 4: 2 readings, where 256 to 1,024 are allowed"),
     ] {
         let answer = replayed(&format!("{CHARGE}{calls}"));
@@ -30,6 +34,39 @@ fn rare_calls() {
     let note =
         "fault 1 (no diode): low 9,000 mV at 30 and 9,000 mV at 40 are outside -13,000 to -11,000";
     assert!(line(&answer, "6 ").ends_with(note), "{answer}");
+}
+
+/// The currents of a reply have a column if a measure has one for each line.
+#[test]
+fn a_column_for_three_lines() {
+    let one = replayed(&format!("{CHARGE}measure 50 31000\ntick 60\n"));
+    assert!(!one.contains("lines 1, 2, 3"), "{one}");
+    let log = format!("{CHARGE}measure 50 1000 20000 0\ntick 60\nmeasure 70 5\nmeasure 80 0 0 200001\nbegin 90 1 0 no\n");
+    let three = replayed(&log);
+    let heading = three.lines().next().expect("a heading");
+    let column = heading.find("lines 1, 2, 3 (mA)").expect("a column");
+    for (start, shown) in [
+        ("6 ", "0 0 0  "),
+        ("7 ", "1,000 20,000 0"),
+        ("8 ", "1,000 20,000 0"),
+        ("9 ", "5 0 0"),
+        ("10 ", "5 0 0  "),
+        ("11 ", "-  "),
+    ] {
+        let row = line(&three, start);
+        assert!(row[column..].starts_with(shown), "{row}");
+        assert_eq!(row.trim_end(), row);
+    }
+}
+
+#[test]
+fn currents_alone_are_no_change() {
+    let log = format!("{CHARGE}measure 50 1 2 3\nmeasure 60 4 5 6\ntick 121\n");
+    let answer = answer(&["replay", "-", "--only", "changes"], &log);
+    let table = answer.split("\n\nsummary").next().expect("a table");
+    let lines: Vec<&str> = table.lines().skip(1).map(|row| row[..4].trim()).collect();
+    assert_eq!(lines, ["1", "4", "6", "9"]);
+    assert!(line(&answer, "9 ").contains("  4 5 6  "), "{answer}");
 }
 
 #[test]

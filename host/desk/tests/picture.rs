@@ -145,6 +145,42 @@ fn the_axis_has_the_times_of_the_log() {
     assert!(svg.contains(">200 A<") && svg.contains("cx=\"1164.0\" cy=\"470.0\""));
 }
 
+/// The places of the circles of a class; the legend's are above the panel.
+fn circles(svg: &str, class: &str) -> Vec<(f64, f64)> {
+    let end = format!("class=\"{class}\"/>");
+    let value = |line: &str, name: &str| -> f64 {
+        let start = line.find(name).expect("a place") + name.len();
+        let text = line[start..].split('"').next().expect("a number");
+        text.parse().expect("a number")
+    };
+    let circles = svg
+        .lines()
+        .filter(|line| line.starts_with("<circle") && line.ends_with(&end));
+    let places = circles.map(|line| (value(line, "cx=\""), value(line, "cy=\"")));
+    places.filter(|place| place.1 >= 412.0).collect()
+}
+
+/// 0 to 40 A from y 528 to 412; 1,000 ms from x 92 to 1164.
+#[test]
+fn three_lines_have_a_dot_each_and_a_ring_around_the_largest() {
+    let one = picture(&format!("{CHARGE}measure 1000 20000\n"), WHOLE);
+    assert_eq!(circles(&one, "measured"), [(1164.0, 470.0)]);
+    assert!(circles(&one, "line1").is_empty() && circles(&one, "largest").is_empty());
+    let log = CHARGE.replace("tick 1000", "measure 500 10000 20000 0\nmeasure 1000 15000");
+    let three = picture(&log, WHOLE);
+    assert_eq!(circles(&three, "line1"), [(628.0, 499.0), (1164.0, 484.5)]);
+    assert_eq!(circles(&three, "line2"), [(628.0, 470.0), (1164.0, 528.0)]);
+    assert_eq!(circles(&three, "line3"), [(628.0, 528.0), (1164.0, 528.0)]);
+    assert_eq!(
+        circles(&three, "largest"),
+        [(628.0, 470.0), (1164.0, 484.5)]
+    );
+    assert!(circles(&three, "measured").is_empty());
+    for words in [">line 1<", ">line 2<", ">line 3<", ">largest<"] {
+        assert!(three.contains(words) && !one.contains(words), "{words}");
+    }
+}
+
 #[test]
 fn of_many_openings_the_first_are_listed() {
     let mut log = CHARGE.replace("3000 no", "1000 no");

@@ -234,6 +234,17 @@ fn refused_calls_are_told_and_no_more() {
 }
 
 #[test]
+fn the_last_measure_is_told() {
+    let log = format!("{CHARGE}measure 50 1000 20000 0\nmeasure 60 0 0 200001\n");
+    let told = why(&log, "60");
+    assert!(
+        told.contains("closings 1, last measure 1,000 20,000 0 mA\n"),
+        "{told}"
+    );
+    assert!(!why(&log, "45").contains("last measure"));
+}
+
+#[test]
 fn what_can_not_be_asked() {
     for words in [
         &["why", "-", "--at", "+5"][..],

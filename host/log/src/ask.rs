@@ -16,6 +16,9 @@ pub fn ask(lent: &mut raw::Controller, call: &Call, room: &mut Room) -> raw::Rep
             }
             Call::Limit(time, current) => raw::chuldariin_limit(lent, time, current),
             Call::Measure(time, current) => raw::chuldariin_measure(lent, time, current),
+            Call::MeasureLines(time, [line1, line2, line3]) => {
+                raw::chuldariin_measure_lines(lent, time, line1, line2, line3)
+            }
             Call::Fault(time, kind) => raw::chuldariin_fault(lent, time, kind),
             Call::Clear(time) => raw::chuldariin_clear(lent, time),
             Call::Tick(time) => raw::chuldariin_tick(lent, time),

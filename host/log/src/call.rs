@@ -3,7 +3,7 @@
 use crate::window::{Room, Window};
 use chuldariin_model::{Begin, Event};
 
-/// The seven calls. The first number of all but begin is the time, ms.
+/// The calls. The first number of all but begin is the time, ms.
 #[derive(Clone, Debug, PartialEq, Eq)]
 pub enum Call {
     Begin(Begin),
@@ -11,8 +11,10 @@ pub enum Call {
     Sample(u64, Window),
     /// The depot's limit, mA.
     Limit(u64, u32),
-    /// The largest line current, mA.
+    /// One current, mA: on line 1, and 0 on the others.
     Measure(u64, u32),
+    /// The current on each line, line 1 first, mA.
+    MeasureLines(u64, [u32; 3]),
     /// Kind 3 residual current, 4 welded contact, 5 over-temperature.
     Fault(u64, u32),
     Clear(u64),
@@ -26,6 +28,7 @@ impl Call {
             Call::Sample(time, _)
             | Call::Limit(time, _)
             | Call::Measure(time, _)
+            | Call::MeasureLines(time, _)
             | Call::Fault(time, _)
             | Call::Clear(time)
             | Call::Tick(time) => *time,
@@ -38,7 +41,8 @@ impl Call {
             Call::Begin(_) => None,
             Call::Sample(_, window) => Some(Event::Sample(window.readings(room))),
             Call::Limit(_, current) => Some(Event::Limit(*current)),
-            Call::Measure(_, current) => Some(Event::Measure(*current)),
+            Call::Measure(_, current) => Some(Event::measure_one(*current)),
+            Call::MeasureLines(_, lines) => Some(Event::Measure(*lines)),
             Call::Fault(_, kind) => Some(Event::Fault(*kind)),
             Call::Clear(_) => Some(Event::Clear),
             Call::Tick(_) => Some(Event::Tick),
@@ -51,7 +55,7 @@ impl Call {
             Call::Begin(_) => "begin",
             Call::Sample(..) => "sample",
             Call::Limit(..) => "limit",
-            Call::Measure(..) => "measure",
+            Call::Measure(..) | Call::MeasureLines(..) => "measure",
             Call::Fault(..) => "fault",
             Call::Clear(_) => "clear",
             Call::Tick(_) => "tick",

@@ -10,6 +10,7 @@ pub fn meaning(c: &raw::Controller) -> State {
         pause: c.settings.pause,
         ventilation: c.settings.ventilation,
         limit: c.limit,
+        lines: c.lines.each(),
         wave: c.wave,
         closed: c.closed,
         settled: band(c.settled),

@@ -5,7 +5,8 @@
 //! sample TIME HIGH LOW       256 readings, first half at HIGH, second half at LOW
 //! window TIME r1 r2 ..       the readings one by one
 //! limit TIME MA
-//! measure TIME MA
+//! measure TIME MA            one current: on line 1, and 0 on the others
+//! measure TIME L1 L2 L3      the current on each line
 //! fault TIME KIND
 //! clear TIME
 //! tick TIME
@@ -27,7 +28,7 @@ const FORMS: [(&str, &str); 8] = [
     ("sample", "sample TIME HIGH LOW"),
     ("window", "window TIME r1 r2 .."),
     ("limit", "limit TIME MA"),
-    ("measure", "measure TIME MA"),
+    ("measure", "measure TIME MA or measure TIME L1 L2 L3"),
     ("fault", "fault TIME KIND"),
     ("clear", "clear TIME"),
     ("tick", "tick TIME"),
@@ -67,6 +68,9 @@ impl fmt::Display for Call {
             Call::Sample(time, window) => write_window(f, *time, window),
             Call::Limit(time, number) | Call::Measure(time, number) | Call::Fault(time, number) => {
                 write!(f, "{word} {time} {number}")
+            }
+            Call::MeasureLines(time, [one, two, three]) => {
+                write!(f, "{word} {time} {one} {two} {three}")
             }
             Call::Clear(time) | Call::Tick(time) => write!(f, "{word} {time}"),
         }
@@ -180,7 +184,7 @@ fn parse_call(line: usize, word: &str, words: SplitAsciiWhitespace) -> Result<Ca
         ),
         "window" => Call::Sample(time, values.readings()?.into()),
         "limit" => Call::Limit(time, values.number("MA")?),
-        "measure" => Call::Measure(time, values.number("MA")?),
+        "measure" => values.measure(time)?,
         "fault" => Call::Fault(time, values.number("KIND")?),
         "clear" => Call::Clear(time),
         "tick" => Call::Tick(time),
@@ -240,6 +244,16 @@ impl<'a> Values<'a> {
                 self.form,
             )),
         }
+    }
+
+    /// One current, or one for each line.
+    fn measure(&mut self, time: u64) -> Result<Call, Wrong> {
+        let first = self.number("MA")?;
+        if self.words.clone().next().is_none() {
+            return Ok(Call::Measure(time, first));
+        }
+        let lines = [first, self.number("L2")?, self.number("L3")?];
+        Ok(Call::MeasureLines(time, lines))
     }
 
     fn readings(&mut self) -> Result<Vec<i32>, Wrong> {

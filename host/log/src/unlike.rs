@@ -13,6 +13,7 @@ pub fn unlike(archive: &raw::Reply, model: &Reply) -> Vec<&'static str> {
         ("contactor", archive.closed == model.closed),
         ("fault", model.may_tell(archive.fault.into())),
         ("closings", archive.closings == model.closings),
+        ("lines", archive.lines.each() == model.lines),
     ];
     let unlike = parts.iter().filter(|part| !part.1);
     unlike.map(|part| part.0).collect()
@@ -28,6 +29,7 @@ pub fn unlike_kept(archive: &State, model: &State) -> Vec<&'static str> {
         ("kept pause", archive.pause == model.pause),
         ("kept ventilation", archive.ventilation == model.ventilation),
         ("kept limit", archive.limit == model.limit),
+        ("kept lines", archive.lines == model.lines),
         ("kept wave", archive.wave == model.wave),
         ("kept contactor", archive.closed == model.closed),
         ("kept settled state", archive.settled == model.settled),

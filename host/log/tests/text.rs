@@ -13,16 +13,21 @@ window 20 -15001
 window 20 1 2 3
 limit 30 32000
 measure 40 200001
+measure 40 0 200001 4294967295
 fault 50 3
 clear 1000000000000
 tick 1000000000001
 ";
 
 /// Lines that are no calls, and what is said of each.
-const WRONG: [(&str, &str); 30] = [
+const WRONG: [(&str, &str); 34] = [
     ("tick", "TIME is missing; expected tick TIME"),
     ("tick # 1", "TIME is missing; expected tick TIME"),
     ("limit 1", "MA is missing; expected limit TIME MA"),
+    ("measure 1", "MA is missing; expected measure TIME MA or measure TIME L1 L2 L3"),
+    ("measure 1 2 3", "L3 is missing; expected measure TIME MA or measure TIME L1 L2 L3"),
+    ("measure 1 2 3 x", "L3 'x' is no number; expected a whole number in digits alone, like 32000 or -12000"),
+    ("measure 1 2 3 4 5", "'5' is one value too many; expected measure TIME MA or measure TIME L1 L2 L3"),
     ("fault 1", "KIND is missing; expected fault TIME KIND"),
     ("sample 10 9000", "LOW is missing; expected sample TIME HIGH LOW"),
     ("begin 0", "RATED is missing; expected begin TIME RATED PAUSE yes|no"),
@@ -57,10 +62,12 @@ const WRONG: [(&str, &str); 30] = [
 #[test]
 fn text_comes_back_as_it_was() {
     let list = calls(TEXT).expect("a list of calls");
-    assert_eq!(list.len(), 12);
+    assert_eq!(list.len(), 13);
     assert_eq!(print(&list), TEXT);
     assert_eq!(list[2], Call::Sample(10, Window::Halves(9_000, -12_000)));
     assert_eq!(list[4], Call::Sample(20, Window::Readings(Vec::new())));
+    assert_eq!(list[8], Call::Measure(40, 200_001));
+    assert_eq!(list[9], Call::MeasureLines(40, [0, 200_001, u32::MAX]));
 }
 
 #[test]

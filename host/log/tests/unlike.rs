@@ -19,6 +19,7 @@ fn every_difference_is_told() {
     let mut other = archive;
     (other.refusal, other.letter, other.digit, other.wave) = (1, b'A', 1, 100);
     (other.closed, other.fault, other.closings) = (true, 3, 1);
+    other.lines.line3 = 1;
     let all = [
         "refusal",
         "letter",
@@ -27,12 +28,20 @@ fn every_difference_is_told() {
         "contactor",
         "fault",
         "closings",
+        "lines",
     ];
     assert_eq!(unlike(&other, &model), all);
     let mut other = state;
     (other.limit, other.stop, other.faults[2]) = (1, Some(5), true);
+    other.lines[1] = 1;
     assert_eq!(
         unlike_kept(&state, &other),
-        ["kept limit", "kept faults", "kept stop", "controller"]
+        [
+            "kept limit",
+            "kept lines",
+            "kept faults",
+            "kept stop",
+            "controller"
+        ]
     );
 }

@@ -30,6 +30,8 @@ pub struct Reply {
     /// The latched faults. Which of them is told is left open.
     pub faults: [bool; 5],
     pub closings: u32,
+    /// The kept line currents, line 1 first, mA.
+    pub lines: [u32; 3],
 }
 
 impl Reply {
@@ -43,6 +45,7 @@ impl Reply {
             closed: state.closed,
             faults: state.faults,
             closings: state.closings,
+            lines: state.lines,
         }
     }
 
@@ -56,6 +59,7 @@ impl Reply {
             closed: false,
             faults: [false; 5],
             closings: 0,
+            lines: [0; 3],
         }
     }
 
@@ -108,6 +112,7 @@ pub fn begin(b: &Begin) -> Result<(State, Reply), u8> {
         pause: if b.pause == 0 { USUAL_PAUSE } else { b.pause },
         ventilation: b.ventilation,
         limit: 0,
+        lines: [0; 3],
         wave: 1_000,
         closed: false,
         settled: None,

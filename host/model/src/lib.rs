@@ -1,9 +1,10 @@
 //! What the controller of a charging post should do, as plain Rust.
 //!
-//! It was made from document 01, the paper that states the rules, and request a
-//! of document 02, by which pause 0 means 10,000, without sight of the controller
-//! that it is held against, call by call. Its interface and readings 1, 3 and 5
-//! below were given. It is slow and obvious on purpose.
+//! It was made from document 01, the paper that states the rules, and requests a
+//! and b of document 02, by which pause 0 means 10,000 and a measure has a current
+//! for every line, without sight of the controller that it is held against, call
+//! by call. Its interface and readings 1, 3 and 5 below were given. It is slow and
+//! obvious on purpose.
 //!
 //! | File | What it holds |
 //! |---|---|
@@ -19,7 +20,7 @@
 //!
 //! # Readings
 //!
-//! Where the paper can be read in more than one way, the model reads it so:
+//! Where the papers can be read in more than one way, the model reads them so:
 //!
 //! Table of refusals
 //! 1. A wave in range is 0, 100 to 960 or 1000; anything else is refusal 1.
@@ -31,9 +32,9 @@
 //! 4. A last accepted time above the largest time is no refusal 1 of itself:
 //!    every call on it is refused 3 or 2.
 //! 5. 1,000,000,001 closings are in range, and the call may still add one.
-//! 6. Refusal 1 looks at nothing else: a contradictory verdict of the previous
-//!    sample, a driven wave under a latched fault and the like are taken as they
-//!    are.
+//! 6. Refusal 1 looks at nothing else: kept lines above 200,000, a contradictory
+//!    verdict of the previous sample, a driven wave under a latched fault and the
+//!    like are taken as they are.
 //! 7. Begin knows only 3 and 1, in that order.
 //!
 //! Samples
@@ -42,8 +43,8 @@
 //! 9. A sample's band is that of its high level, whatever its low level is.
 //!
 //! Steps
-//! 10. Step 1 ignores a measure while the contactor is open or the wave is
-//!     steady. The wave is the one commanded before the call.
+//! 10. Step 1 leaves the over-run as it is at a measure with the contactor open
+//!     or the wave steady. The wave is the one commanded before the call.
 //! 11. Fault 2 asks only for the age of the over-run, in a call of any kind and
 //!     with the contactor open as well.
 //! 12. Faults 1 and 2 latch whenever their condition holds, also if latched
@@ -57,9 +58,16 @@
 //!     (only in an altered controller). Wave 0 leaves the stop to step 4.
 //! 16. Clear drops the faults and nothing else; the settled state stays.
 //! 17. The last sound sample is kept in step 1 and is never forgotten.
+//! 18. Step 1 keeps the lines of every accepted measure, also with the contactor
+//!     open or the wave steady. Nothing but a measure or a begin changes them:
+//!     no opening, latch or clear sets them back.
+//! 19. Over-run is judged in a measure call alone, on that call's own lines. Kept
+//!     lines are not judged again when the wave changes or the contactor closes.
+//! 20. The old measure puts lines 2 and 3 to 0, whatever they were.
 //!
 //! Reply
-//! 18. Letter U, E or F gives digit 0, whatever the wave is.
+//! 21. Letter U, E or F gives digit 0, whatever the wave is.
+//! 22. The lines are in the reply to every call, as kept after it.
 
 #![forbid(unsafe_code)]
 

@@ -12,6 +12,8 @@ pub struct State {
     pub ventilation: bool,
     /// Depot limit, mA.
     pub limit: u32,
+    /// Line currents of the last accepted measure, line 1 first, mA.
+    pub lines: [u32; 3],
     /// Wave command, a duty.
     pub wave: u32,
     /// Contactor.
@@ -43,12 +45,19 @@ pub enum Event<'a> {
     Sample(&'a [i32]),
     /// The depot's limit, mA.
     Limit(u32),
-    /// The largest line current, mA.
-    Measure(u32),
+    /// The three line currents, line 1 first, mA.
+    Measure([u32; 3]),
     /// Kind 3 residual current, 4 welded contact, 5 over-temperature.
     Fault(u32),
     Clear,
     Tick,
+}
+
+impl Event<'static> {
+    /// The old measure: one current, mA. It is line 1's, the others have 0.
+    pub fn measure_one(current: u32) -> Event<'static> {
+        Event::Measure([current, 0, 0])
+    }
 }
 
 impl State {

@@ -1,7 +1,7 @@
 //! Steps 1 to 5 of an accepted call, in their literal order.
 //!
 //! The table has let the call pass, so the call's time is at or above every
-//! stored time, and every figure is in range: no sum or difference overflows.
+//! stored time, and every figure reckoned with is in range: nothing overflows.
 
 use crate::duty::{driven, duty_for, reading, Reading};
 use crate::pilot::{same_band, verdict, Band, Verdict};
@@ -94,7 +94,7 @@ impl Run {
         match *event {
             Event::Sample(_) => self.settle(),
             Event::Limit(limit) => self.state.limit = limit,
-            Event::Measure(current) => self.measure(current),
+            Event::Measure(lines) => self.measure(lines),
             Event::Fault(kind) => self.latch(kind as usize),
             Event::Clear => self.state.faults = [false; 5],
             Event::Tick => {}
@@ -113,13 +113,15 @@ impl Run {
         }
     }
 
-    /// A measure: over-run starts, runs on or ends.
-    fn measure(&mut self, current: u32) {
+    /// A measure: its lines are kept, and over-run starts, runs on or ends.
+    fn measure(&mut self, lines: [u32; 3]) {
+        self.state.lines = lines;
         if !self.state.closed || !driven(self.state.wave) {
             return;
         }
+        let largest = lines[0].max(lines[1]).max(lines[2]);
         if let Ok(Reading::Current(announced)) = reading(self.state.wave) {
-            if 10 * current > 11 * announced {
+            if 10 * largest > 11 * announced {
                 self.state.overrun = self.state.overrun.or(Some(self.time));
             } else {
                 self.state.overrun = None;

@@ -6,7 +6,7 @@ use crate::window::{levels, Evaluated};
 
 /// The largest time, ms.
 const LARGEST_TIME: u64 = 1_000_000_000_000;
-/// The largest limit and the largest measure, mA.
+/// The largest limit, and the largest measured current of a line, mA.
 const LARGEST_LIMIT: u32 = 80_000;
 const LARGEST_MEASURE: u32 = 200_000;
 /// No list of calls leads above so many closings.
@@ -51,7 +51,7 @@ pub(crate) fn check(
     match *event {
         Event::Sample(window) => evaluate(window).map(Some),
         Event::Limit(limit) if limit > LARGEST_LIMIT => Err(7),
-        Event::Measure(current) if current > LARGEST_MEASURE => Err(7),
+        Event::Measure(lines) if lines.iter().any(|&line| line > LARGEST_MEASURE) => Err(7),
         Event::Fault(kind) if !(3..=5).contains(&kind) => Err(8),
         _ => Ok(None),
     }

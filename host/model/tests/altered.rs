@@ -1,33 +1,9 @@
 //! The readings of `src/lib.rs`, mostly on controllers that a host altered.
 
+mod common;
+
 use chuldariin_model::*;
-
-fn window(high: i32, low: i32) -> Vec<i32> {
-    let mut readings = vec![high; 128];
-    readings.extend(vec![low; 128]);
-    readings
-}
-
-/// A closed controller at time 10,000, all in order, its van in C.
-fn charging() -> State {
-    State {
-        rated: 32_000,
-        pause: 3_000,
-        ventilation: false,
-        limit: 32_000,
-        wave: 533,
-        closed: true,
-        settled: Some(Band::C),
-        faults: [false; 5],
-        last: 10_000,
-        sound: Some(10_000),
-        opening: None,
-        overrun: None,
-        stop: None,
-        previous: Some(verdict(6_000, -12_000, 533, false)),
-        closings: 1,
-    }
-}
+use common::{charging, window};
 
 #[test]
 fn no_sound_sample_so_far_opens() {
@@ -44,12 +20,12 @@ fn old_over_run_latches_with_the_contactor_open() {
     let mut state = charging();
     state.closed = false;
     state.overrun = Some(5_000);
-    // A measure does nothing with the contactor open.
-    let (next, outcome) = state.call(10_000, &Event::Measure(0));
+    // A measure ends no over-run with the contactor open.
+    let (next, outcome) = state.call(10_000, &Event::Measure([0; 3]));
     assert_eq!(outcome.latched, [false, true, false, false, false]);
     assert_eq!((next.wave, next.overrun, next.settled), (0, None, None));
     state.overrun = Some(5_001);
-    let (next, _) = state.call(10_000, &Event::Measure(0));
+    let (next, _) = state.call(10_000, &Event::Measure([0; 3]));
     assert_eq!(next.overrun, Some(5_001));
 }
 
@@ -176,6 +152,10 @@ impl Dice {
         ])
     }
 
+    fn lines(&mut self) -> [u32; 3] {
+        [0; 3].map(|_| self.one(&[0, 35_178, 35_179, 200_000, 200_001, u32::MAX]))
+    }
+
     fn verdict(&mut self) -> Option<Verdict> {
         let band = self.one(&[None, Some(Band::B), Some(Band::C), Some(Band::D)]);
         let (sound, proven, diode_bad) = (self.roll(2) == 0, self.roll(2) == 0, self.roll(2) == 0);
@@ -194,6 +174,7 @@ impl Dice {
             pause: self.one(&[0, 1_000, 60_000, u64::MAX]),
             ventilation: self.roll(2) == 0,
             limit: self.one(&[0, 5_999, 32_000, 80_000, u32::MAX]),
+            lines: self.lines(),
             wave: self.one(&[0, 100, 533, 960, 1_000, u32::MAX]),
             closed: self.roll(2) == 0,
             settled: self.one(&[None, Some(Band::A), Some(Band::C), Some(Band::D)]),
@@ -210,7 +191,7 @@ impl Dice {
 }
 
 /// What must hold of any call on any state.
-fn hold_together(state: &State, time: u64, next: &State, outcome: &Outcome) {
+fn hold_together(state: &State, time: u64, event: &Event, next: &State, outcome: &Outcome) {
     assert_eq!(outcome.reply, Reply::of(next, outcome.reply.refusal));
     assert_eq!(outcome.opened, state.closed && !next.closed);
     assert_eq!(outcome.closing, !state.closed && next.closed);
@@ -218,6 +199,10 @@ fn hold_together(state: &State, time: u64, next: &State, outcome: &Outcome) {
     assert_eq!(outcome.closing, outcome.conditions.all());
     if outcome.reply.refusal == 0 {
         assert_eq!(next.last, time);
+        match *event {
+            Event::Measure(lines) => assert_eq!(next.lines, lines),
+            _ => assert_eq!(next.lines, state.lines),
+        }
     } else {
         assert_eq!(next, state);
     }
@@ -235,14 +220,15 @@ fn any_state_takes_any_call() {
         let event = match dice.roll(12) {
             0 => Event::Sample(&windows[place]),
             1 | 2 => Event::Limit(dice.one(&[0, 80_000, u32::MAX])),
-            3 | 4 => Event::Measure(dice.one(&[0, 200_000, u32::MAX])),
+            3 => Event::measure_one(dice.one(&[0, 200_000, u32::MAX])),
+            4 => Event::Measure(dice.lines()),
             5 | 6 => Event::Fault(dice.roll(8) as u32),
             7 | 8 => Event::Clear,
             _ => Event::Tick,
         };
         let time = dice.one(&[0, 10_000, 13_000, 1_000_000_000_000, u64::MAX]);
         let (next, outcome) = state.call(time, &event);
-        hold_together(&state, time, &next, &outcome);
+        hold_together(&state, time, &event, &next, &outcome);
         accepted += u32::from(outcome.reply.refusal == 0);
     }
     assert!(accepted > 1_000, "{accepted}");

@@ -1,6 +1,7 @@
 //! The paper's bench figures, field faults and refusals.
 //!
 //! Begin's pause is 0 unless a test hangs on the pause; such a test names its own.
+//! Measures are old ones of one current; those of three are in `lines.rs`.
 
 use chuldariin_model::*;
 
@@ -205,13 +206,13 @@ fn sound_proven_and_diode_bad() {
 #[test]
 fn over_run() {
     let mut post = Post::closed();
-    post.call(50, Event::Measure(35_178));
+    post.call(50, Event::measure_one(35_178));
     assert_eq!(post.state.overrun, None);
     post.ready(50, 990);
-    post.call(1_000, Event::Measure(35_179));
+    post.call(1_000, Event::measure_one(35_179));
     assert_eq!(post.state.overrun, Some(1_000));
     post.ready(1_000, 5_990);
-    post.call(5_990, Event::Measure(200_000));
+    post.call(5_990, Event::measure_one(200_000));
     assert_eq!(post.state.overrun, Some(1_000));
     let reply = post.call(5_999, Event::Tick);
     assert_eq!((reply.faults, reply.closed), ([false; 5], true));
@@ -227,9 +228,9 @@ fn over_run() {
 #[test]
 fn over_run_that_ends_in_time() {
     let mut post = Post::closed();
-    post.call(50, Event::Measure(35_179));
+    post.call(50, Event::measure_one(35_179));
     post.ready(50, 5_040);
-    let reply = post.call(5_050, Event::Measure(35_178));
+    let reply = post.call(5_050, Event::measure_one(35_178));
     assert_eq!((reply.faults, post.state.overrun), ([false; 5], None));
 }
 
@@ -385,6 +386,7 @@ fn begin_accepted() {
         );
         assert!(state.ventilation && !state.closed);
         assert_eq!((state.limit, state.wave, state.settled), (0, 1_000, None));
+        assert_eq!((state.lines, reply.lines), ([0; 3], [0; 3]));
         assert_eq!((reply.refusal, reply.letter, reply.digit), (0, b'U', 0));
         assert_eq!(
             (reply.wave, reply.closed, reply.closings),
@@ -412,7 +414,8 @@ fn begin_refused() {
         assert_eq!(asked(MAX_TIME + 1, rated, pause), Err(3));
     }
     assert_eq!(asked(u64::MAX, 32_000, 0), Err(3));
-    assert_eq!(Reply::alone(3).letter, 0);
+    let alone = Reply::alone(3);
+    assert_eq!((alone.letter, alone.lines), (0, [0; 3]));
 }
 
 /// Every alteration that refusal 1 names.
@@ -446,7 +449,7 @@ fn altered_controllers_are_refused_1() {
         assert_eq!(post.call(40, Event::Tick).refusal, 1);
         assert_eq!(post.call(40, Event::Clear).refusal, 1);
         assert_eq!(post.call(40, Event::Sample(&[])).refusal, 1);
-        assert_eq!(post.call(40, Event::Measure(u32::MAX)).refusal, 1);
+        assert_eq!(post.call(40, Event::measure_one(u32::MAX)).refusal, 1);
         assert_eq!(post.call(40, Event::Fault(0)).refusal, 1);
         assert_eq!(post.call(39, Event::Tick).refusal, 2);
         assert_eq!(post.call(MAX_TIME + 1, Event::Tick).refusal, 3);
@@ -502,8 +505,8 @@ fn refusals_7_and_8() {
     let mut post = Post::closed();
     assert_eq!(post.call(50, Event::Limit(80_000)).refusal, 0);
     assert_eq!(post.call(50, Event::Limit(80_001)).refusal, 7);
-    assert_eq!(post.call(50, Event::Measure(200_000)).refusal, 0);
-    assert_eq!(post.call(50, Event::Measure(200_001)).refusal, 7);
+    assert_eq!(post.call(50, Event::measure_one(200_000)).refusal, 0);
+    assert_eq!(post.call(50, Event::measure_one(200_001)).refusal, 7);
     for kind in [0, 1, 2, 6, u32::MAX] {
         assert_eq!(post.call(50, Event::Fault(kind)).refusal, 8);
     }

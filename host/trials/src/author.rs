@@ -160,6 +160,17 @@ impl Author {
         self.say(Call::Limit(time, limit))
     }
 
+    /// A measure with this as its largest current: the only one, or on any line.
+    pub fn measure(&mut self, time: u64, largest: u32) -> Played {
+        if self.dice.one_in(3) {
+            return self.say(Call::Measure(time, largest));
+        }
+        let any = self.dice.between(0, largest.into()) as u32;
+        let mut lines = [0; 3].map(|_| self.dice.pick(&[0, any, largest]));
+        lines[self.dice.place(3)] = largest;
+        self.say(Call::MeasureLines(time, lines))
+    }
+
     /// One of the faults that the board finds.
     pub fn fault(&mut self, time: u64) -> Played {
         let kind = self.dice.pick(&[3, 4, 5]);

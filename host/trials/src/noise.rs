@@ -19,10 +19,21 @@ impl Author {
             2 => self.any_call(u64::MAX),
             3 => self.any_call(self.state().last.wrapping_sub(1)),
             4 => Call::Limit(time, self.dice.pick(&[80_001, 200_000, u32::MAX])),
-            5 => Call::Measure(time, self.dice.pick(&[200_001, 2_000_000, u32::MAX])),
+            5 => self.bad_measure(time),
             6 => Call::Fault(time, self.dice.pick(&[0, 1, 2, 6, 7, 255, 259, u32::MAX])),
             _ => Call::Sample(time, self.bad_window().into()),
         }
+    }
+
+    /// A measure with a current out of range, or more than one.
+    fn bad_measure(&mut self, time: u64) -> Call {
+        let bad = self.dice.pick(&[200_001, 2_000_000, u32::MAX]);
+        if self.dice.one_in(4) {
+            return Call::Measure(time, bad);
+        }
+        let mut lines = [0; 3].map(|_| self.dice.pick(&[0, 32_000, 200_000, bad]));
+        lines[self.dice.place(3)] = bad;
+        Call::MeasureLines(time, lines)
     }
 
     /// A window of a wrong length, with a reading out of range, or unsupported.
@@ -91,7 +102,8 @@ impl Author {
         match self.dice.between(0, 15) {
             0..=6 => Call::Sample(time, self.any_window()),
             7..=8 => Call::Limit(time, self.dice.pick(&CURRENTS)),
-            9..=10 => Call::Measure(time, self.any_current()),
+            9 => Call::Measure(time, self.any_current()),
+            10 => Call::MeasureLines(time, [0; 3].map(|_| self.any_current())),
             11 => Call::Fault(time, self.dice.pick(&[2, 3, 4, 5, 3, 4, 5, 6])),
             12..=13 => Call::Clear(time),
             _ => Call::Tick(time),

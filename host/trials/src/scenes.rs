@@ -67,7 +67,7 @@ pub fn charge(author: &mut Author) -> Played {
         let time = author.state().last;
         match author.dice.between(0, 11) {
             0 => author.good_limit()?,
-            1 => author.say(Call::Measure(time, 32_000))?,
+            1 => author.measure(time, 32_000)?,
             2 => author.say(Call::Tick(time + 1))?,
             3 => author.say(Call::Clear(time))?,
             _ => {}
@@ -111,7 +111,7 @@ fn between(author: &mut Author) -> Played {
     match author.dice.between(0, 9) {
         0 => author.say(Call::Tick(time)),
         1 => author.limit(time, &GOOD_LIMITS),
-        2 => author.say(Call::Measure(time, 0)),
+        2 => author.measure(time, 0),
         3 => author.say(Call::Clear(time)),
         _ => Ok(()),
     }
@@ -177,8 +177,8 @@ fn finish(author: &mut Author, time: u64) -> Played {
     match author.dice.between(0, 11) {
         0 => author.say(Call::Limit(time, author.state().limit)),
         1 => author.limit(time, &GOOD_LIMITS),
-        2 => author.say(Call::Measure(time, author.allowance() + 1)),
-        3 => author.say(Call::Measure(time, author.allowance())),
+        2 => author.measure(time, author.allowance() + 1),
+        3 => author.measure(time, author.allowance()),
         4 => author.fault(time),
         5 => author.say(Call::Clear(time)),
         6 => author.van_at(time, Band::B),
@@ -194,15 +194,15 @@ pub fn over_run(author: &mut Author) -> Played {
     close(author)?;
     let most = author.allowance();
     let time = author.soon();
-    author.say(Call::Measure(time, most))?;
-    author.say(Call::Measure(time, most + 1))?;
+    author.measure(time, most)?;
+    author.measure(time, most + 1)?;
     let Some(start) = author.state().overrun else {
         return Ok(());
     };
     let time = author.soon();
     match author.dice.between(0, 7) {
-        0 => author.say(Call::Measure(time, most))?,
-        1 => author.say(Call::Measure(time, most + 1))?,
+        0 => author.measure(time, most)?,
+        1 => author.measure(time, most + 1)?,
         2 => author.limit(time, &LOW_LIMITS)?,
         3 => author.limit(time, &GOOD_LIMITS)?,
         _ => {}

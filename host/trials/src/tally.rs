@@ -2,7 +2,9 @@
 
 use crate::pair::Seen;
 use chuldariin_log::{Call, Room};
-use chuldariin_model::{begin, refusal_of_call, Begin, Conditions, Event, State};
+use chuldariin_model::{
+    begin, driven, reading, refusal_of_call, Begin, Conditions, Event, Reading, State,
+};
 use std::collections::BTreeMap;
 
 /// Sets of opening causes: bit 0 is cause (i), bit 4 is cause (v).
@@ -61,6 +63,12 @@ pub const LENGTHS: [(&str, usize); 8] = [
     ("1,025", 1_025),
 ];
 
+/// What a measure shows on line 1, 2 or 3.
+pub const LARGEST_ON: [&str; 3] = ["largest on 1", "largest on 2", "largest on 3"];
+pub const MOST_ON: [&str; 3] = ["200,000 on 1", "200,000 on 2", "200,000 on 3"];
+pub const ABOVE_ON: [&str; 3] = ["200,001 on 1", "200,001 on 2", "200,001 on 3"];
+pub const STARTS_ON: [&str; 3] = ["over-run by 1", "over-run by 2", "over-run by 3"];
+
 /// Counts by group and name.
 #[derive(Clone, Debug, Default)]
 pub struct Tally(BTreeMap<(&'static str, &'static str), u64>);
@@ -92,12 +100,14 @@ impl Tally {
         if reply.refusal != 0 {
             self.count("refused", seen.call.word());
             self.see_order(seen);
+            self.see_refused_measure(seen);
             return;
         }
         self.count("accepted", seen.call.word());
         self.see_contactor(seen);
         self.see_ages(seen);
         self.see_conditions(&seen.outcome.conditions);
+        self.see_measure(seen);
         if let Call::Sample(_, window) = seen.call {
             self.see_window(&window.to_vec());
         }
@@ -122,6 +132,48 @@ impl Tally {
             2 if altered(&seen.before) => self.count("order", "2 over 1"),
             1 if refused_anyway(&event) => self.count("order", "1 over 4 to 8"),
             _ => {}
+        }
+    }
+
+    /// Which line made a measure just out of range, where the others are in range.
+    fn see_refused_measure(&mut self, seen: &Seen) {
+        if let (7, Call::MeasureLines(_, lines)) = (seen.outcome.reply.refusal, seen.call) {
+            let line = only(lines.map(|line| line > 200_000));
+            if let Some(line) = line.filter(|&line| lines[line] == 200_001) {
+                self.count("refused lines", ABOVE_ON[line]);
+            }
+        }
+    }
+
+    /// Where the largest current was, and what followed.
+    fn see_measure(&mut self, seen: &Seen) {
+        let (before, after) = (&seen.before, &seen.after);
+        let Call::MeasureLines(_, lines) = *seen.call else {
+            return;
+        };
+        for (line, current) in lines.into_iter().enumerate() {
+            if current == 200_000 {
+                self.count("lines", MOST_ON[line]);
+            }
+        }
+        let changed = before.lines != after.lines;
+        if changed && !before.closed {
+            self.count("lines", "kept open");
+        }
+        if changed && !driven(before.wave) {
+            self.count("lines", "kept under a steady wave");
+        }
+        let most = lines.into_iter().max().unwrap_or(0);
+        let starts = before.overrun.is_none() && after.overrun.is_some();
+        if let Some(line) = only(lines.map(|line| line == most)) {
+            self.count("lines", LARGEST_ON[line]);
+            if starts {
+                self.count("lines", STARTS_ON[line]);
+            }
+        }
+        if before.closed && after.closed && after.overrun.is_none() && over_together(before, lines)
+        {
+            self.count("lines", "over together, none alone");
         }
     }
 
@@ -247,6 +299,23 @@ impl Tally {
         }
         text.push('\n');
         text
+    }
+}
+
+/// The place that alone is true.
+fn only(places: [bool; 3]) -> Option<usize> {
+    let mut held = (0..3).filter(|&place| places[place]);
+    match (held.next(), held.next()) {
+        (Some(place), None) => Some(place),
+        _ => None,
+    }
+}
+
+/// Is the sum of the lines above what the wave allows one of them?
+fn over_together(state: &State, lines: [u32; 3]) -> bool {
+    match reading(state.wave) {
+        Ok(Reading::Current(announced)) => 10 * lines.iter().sum::<u32>() > 11 * announced,
+        _ => false,
     }
 }
 

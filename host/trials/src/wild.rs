@@ -52,6 +52,7 @@ pub fn wild(dice: &mut Dice) -> raw::Controller {
     c.overrun = wild_moment(dice, last, &AGES);
     c.stop = wild_moment(dice, last, &AGES);
     c.previous = wild_previous(dice);
+    c.lines = wild_lines(dice);
     c.closings = seldom(dice, &CLOSINGS, &[0, 1, 1_000_000_000, 1_000_000_001]);
     c
 }
@@ -130,6 +131,20 @@ fn wild_moment(dice: &mut Dice, last: u64, ages: &[u64]) -> raw::Moment {
         _ => dice.pick(&[0, before, after[0], after[1]]),
     };
     raw::Moment { set, time }
+}
+
+/// Above what a measure may bring in every second controller.
+fn wild_lines(dice: &mut Dice) -> raw::Lines {
+    let above = dice.one_in(2);
+    let mut line = || match above {
+        true => dice.pick(&[0, 200_000, 200_001, u32::MAX]),
+        false => dice.pick(&[0, 1, 32_000, 200_000]),
+    };
+    raw::Lines {
+        line1: line(),
+        line2: line(),
+        line3: line(),
+    }
 }
 
 fn wild_previous(dice: &mut Dice) -> raw::Previous {

@@ -142,6 +142,17 @@ fn closings(base: &raw::Controller) -> Vec<raw::Controller> {
     each(base, &CLOSINGS, |c, value| c.closings = value)
 }
 
+/// Currents above what a measure may bring, in each place.
+fn lines(base: &raw::Controller) -> Vec<raw::Controller> {
+    let values = [0, 35_179, 200_000, 200_001, u32::MAX];
+    [
+        each(base, &values, |c, value| c.lines.line1 = value),
+        each(base, &values, |c, value| c.lines.line2 = value),
+        each(base, &values, |c, value| c.lines.line3 = value),
+    ]
+    .concat()
+}
+
 fn settled(base: &raw::Controller) -> Vec<raw::Controller> {
     each(base, &BYTES, |c, value| c.settled = value)
 }
@@ -188,7 +199,8 @@ const RANGED: [Change; 10] = [
     ("stop", stops),
     ("closings", closings),
 ];
-const FREE: [Change; 4] = [
+const FREE: [Change; 5] = [
+    ("lines", lines),
     ("settled", settled),
     ("previous", previous),
     ("faults", all_faults),
@@ -220,7 +232,7 @@ const WANTED: [(&str, &[&str]); 7] = [
 ];
 
 /// Calls of each kind at one time.
-fn calls_at(time: u64) -> [Call; 17] {
+fn calls_at(time: u64) -> [Call; 20] {
     let sample = |high, low| Call::Sample(time, Window::Halves(high, low));
     [
         Call::Tick(time),
@@ -231,6 +243,9 @@ fn calls_at(time: u64) -> [Call; 17] {
         Call::Measure(time, 0),
         Call::Measure(time, 200_000),
         Call::Measure(time, 200_001),
+        Call::MeasureLines(time, [35_178, 35_179, 0]),
+        Call::MeasureLines(time, [0, 0, 200_000]),
+        Call::MeasureLines(time, [0, 200_001, 0]),
         Call::Fault(time, 4),
         Call::Fault(time, 6),
         sample(6_000, -12_000),

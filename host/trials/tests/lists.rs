@@ -2,7 +2,7 @@
 
 use chuldariin_trials::author::write;
 use chuldariin_trials::styles::{list, seeds, STYLES};
-use chuldariin_trials::tally::{Tally, FAULTS, REFUSALS};
+use chuldariin_trials::tally::{Tally, ABOVE_ON, FAULTS, LARGEST_ON, MOST_ON, REFUSALS, STARTS_ON};
 
 const WORDS: [&str; 7] = [
     "begin", "sample", "limit", "measure", "fault", "clear", "tick",
@@ -32,7 +32,7 @@ const REACHED_STATES: [&str; 10] = ["U0", "A1", "B1", "B2", "C1", "C2", "D1", "D
 const LENGTHS: [&str; 8] = ["0", "1", "255", "256", "257", "1,023", "1,024", "1,025"];
 
 /// What must have occurred when all lists are done.
-const WANTED: [(&str, &[&str]); 11] = [
+const WANTED: [(&str, &[&str]); 16] = [
     ("refusal", &REFUSALS),
     ("accepted", &WORDS),
     ("refused", &WORDS),
@@ -53,6 +53,18 @@ const WANTED: [(&str, &[&str]); 11] = [
     ),
     ("length", &LENGTHS),
     ("greatest has", &["7", "8", "9"]),
+    ("lines", &LARGEST_ON),
+    ("lines", &MOST_ON),
+    ("lines", &STARTS_ON),
+    (
+        "lines",
+        &[
+            "kept open",
+            "kept under a steady wave",
+            "over together, none alone",
+        ],
+    ),
+    ("refused lines", &ABOVE_ON),
 ];
 
 #[test]

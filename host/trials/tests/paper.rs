@@ -100,6 +100,39 @@ fn an_over_run_takes_5_s() {
 }
 
 #[test]
+fn an_over_run_on_each_line() {
+    assert_eq!(after("measure 40 35178 35178 35178\n").overrun, None);
+    for lines in ["35179 0 12000", "31000 35179 0", "0 35178 35179"] {
+        let mut calls = list(&format!("measure 40 {lines}\n"));
+        calls.extend(ready(50, 5_030));
+        let mut early = calls.clone();
+        early.push(Call::Tick(5_039));
+        assert!(!run(early).any_fault(), "{lines}");
+        calls.push(Call::Tick(5_040));
+        assert!(run(calls).faults[1], "{lines}");
+    }
+}
+
+#[test]
+fn the_last_accepted_measure_is_kept() {
+    assert_eq!(after("").lines, [0, 0, 0]);
+    let measured = "measure 40 1 2 3\n";
+    for (more, kept) in [
+        ("", [1, 2, 3]),
+        ("measure 50 4\n", [4, 0, 0]),
+        ("measure 50 200001 0 0\n", [1, 2, 3]),
+        ("measure 50 0 200001 0\n", [1, 2, 3]),
+        ("measure 50 0 0 200001\n", [1, 2, 3]),
+        ("measure 50 0 200000 0\n", [0, 200_000, 0]),
+        ("fault 50 3\nclear 60\n", [1, 2, 3]),
+        ("fault 50 3\nmeasure 50 6 5 4\nclear 60\n", [6, 5, 4]),
+        ("begin 50 32000 0 no\n", [0, 0, 0]),
+    ] {
+        assert_eq!(after(&format!("{measured}{more}")).lines, kept, "{more}");
+    }
+}
+
+#[test]
 fn levels_between_bands_keep_the_contactor_closed() {
     let state = after("sample 50 7200 -12000\nsample 60 7499 -12000\nsample 70 7001 -11000\n");
     assert_eq!((state.closed, state.settled), (true, Some(Band::C)));

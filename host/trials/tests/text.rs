@@ -22,6 +22,8 @@ fn calls_come_back_as_they_were() {
             Window::Halves(dice.level(-15_000, 15_000), 0),
         ));
         list.push(Call::Measure(dice.roll(), dice.roll() as u32));
+        let lines = [0; 3].map(|_| dice.roll() as u32);
+        list.push(Call::MeasureLines(dice.roll(), lines));
     }
     assert_eq!(calls(&print(&list)), Ok(list));
 }

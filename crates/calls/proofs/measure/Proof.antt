@@ -1,8 +1,6 @@
--- It is the answer to this event.
-use Rattle.rules.specs.Calls.{evaluated}
+-- It is `measure_lines` with the current on line 1.
 use Rattle.calls.proofs.measure.Statement.{statement}
 use Rattle.calls.proofs.measure.Tie as tie
 
 pub measure-spec : {M : Type 1} → statement M
-unfolding evaluated
-measure-spec = tie.close (tie.spec (λ c κs. tt) (λ c. c .answer .ensures))
+measure-spec = tie.close (tie.spec (λ c κs. tt) (λ c. c .measure-lines .ensures))

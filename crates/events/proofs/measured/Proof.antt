@@ -6,7 +6,7 @@ use Rattle.events.proofs.measured.Tie as tie
 
 returns : tie.Need-returns
 unfolding overrunAt
-returns c = c .judged-over .ensures ∙ rw (c .before .both .ensures, c .before .before .driven .ensures)
+returns c = c .judged-over .ensures ∙ rw (c .before .both .ensures, c .before .before .driven .ensures, c .before .before .before .largest .ensures)
 
 pub measured-spec : {M : Type 1} → statement M
-measured-spec = tie.close (tie.spec (λ c κs. tt) (λ c κs. tt) (λ c κs. tt) returns)
+measured-spec = tie.close (tie.spec (λ c κs. tt) (λ c κs. tt) (λ c κs. tt) (λ c κs. tt) returns)

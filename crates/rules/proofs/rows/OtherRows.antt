@@ -6,8 +6,9 @@ use Prim.Native.Nat.{ℕ}
 use Rattle.pilot.specs.Bands.{bandA, bandB, bandC, bandD, bandE}
 use Rattle.rules.specs.Calls.{limit, measure, fault, clear, tick}
 use Rattle.rules.specs.Lent.{Lent}
+use Rattle.rules.specs.Lines.{noCurrents, onLine1}
 use Rattle.rules.specs.Reply.{letterF, letterU}
-use Rattle.rules.proofs.rows.Sequences.{Sequence, steadyAt, drivenAt, call, every, row, at32A, at80A, withVentilation, charging, Tells, AllTell}
+use Rattle.rules.proofs.rows.Sequences.{Sequence, steadyAt, drivenAt, call, every, on, row, showing, at32A, at80A, withVentilation, charging, Tells, AllTell}
 use Rattle.rules.specs.State.{Moment, Previous, Faults, noFaults, empty, forgotten}
 use Rattle.rules.proofs.rows.Sequences.{tells-by, computed}
 
@@ -28,14 +29,14 @@ abbrev pub overRunEnds : Sequence
 overRunEnds =
     record {
       start = at80A 0;
-      first = charging 0 80000 ++ (call 100 (measure 88001) ∷ call 110 (measure 88000) ∷ call 120 (measure 88001)
-          ∷ (every 60 80 120 (drivenAt 6000) ++ (call 4900 (measure 200000) ∷ every 3 80 4900 (drivenAt 6000))));
+      first = charging 0 80000 ++ (call 100 (measure (onLine1 88001)) ∷ call 110 (measure (onLine1 88000)) ∷ call 120 (measure (onLine1 88001))
+          ∷ (every 60 80 120 (drivenAt 6000) ++ (call 4900 (measure (onLine1 200000)) ∷ every 3 80 4900 (drivenAt 6000))));
       entries =
-          row 5119 tick 0 bandC 2 960 true 0 1
-          ∷ row 5120 tick 0 letterF 0 0 false 2 1
-          ∷ row 5125 tick 0 letterF 0 0 false 2 1
-          ∷ row 5126 (fault 3) 0 letterF 0 0 false 2 1
-          ∷ row 5130 clear 0 letterU 0 1000 false 0 1
+          showing (on 200000 0 0) 5119 tick 0 bandC 2 960 true 0 1
+          ∷ showing (on 200000 0 0) 5120 tick 0 letterF 0 0 false 2 1
+          ∷ showing (on 200000 0 0) 5125 tick 0 letterF 0 0 false 2 1
+          ∷ showing (on 200000 0 0) 5126 (fault 3) 0 letterF 0 0 false 2 1
+          ∷ showing (on 200000 0 0) 5130 clear 0 letterU 0 1000 false 0 1
           ∷ [];
     }
 
@@ -44,9 +45,9 @@ abbrev pub overRunOpen : Sequence
 overRunOpen =
     record {
       start = at80A 0;
-      first = call 0 (limit 80000) ∷ call 10 (steadyAt 9000) ∷ call 20 (steadyAt 9000) ∷ call 25 (measure 200000) ∷ call 30 (drivenAt 6000) ∷ every 64 80 40 (drivenAt 6000);
+      first = call 0 (limit 80000) ∷ call 10 (steadyAt 9000) ∷ call 20 (steadyAt 9000) ∷ call 25 (measure (onLine1 200000)) ∷ call 30 (drivenAt 6000) ∷ every 64 80 40 (drivenAt 6000);
       entries =
-          row 5100 tick 0 bandC 2 960 true 0 1
+          showing (on 200000 0 0) 5100 tick 0 bandC 2 960 true 0 1
           ∷ [];
     }
 
@@ -136,11 +137,11 @@ refusedArguments =
       start = at80A 0;
       first = charging 0 80000;
       entries =
-          row 50 (measure 200001) 7 bandC 2 960 true 0 1
-          ∷ row 50 (measure 200000) 0 bandC 2 960 true 0 1
-          ∷ row 50 (fault 2) 8 bandC 2 960 true 0 1
-          ∷ row 50 (fault 6) 8 bandC 2 960 true 0 1
-          ∷ row 50 (limit 80001) 7 bandC 2 960 true 0 1
+          row 50 (measure (onLine1 200001)) 7 bandC 2 960 true 0 1
+          ∷ showing (on 200000 0 0) 50 (measure (onLine1 200000)) 0 bandC 2 960 true 0 1
+          ∷ showing (on 200000 0 0) 50 (fault 2) 8 bandC 2 960 true 0 1
+          ∷ showing (on 200000 0 0) 50 (fault 6) 8 bandC 2 960 true 0 1
+          ∷ showing (on 200000 0 0) 50 (limit 80001) 7 bandC 2 960 true 0 1
           ∷ [];
     }
 
@@ -269,7 +270,7 @@ callsBetween =
           ∷ row 20 (steadyAt 9000) 0 bandB 2 960 false 0 0
           ∷ row 30 (drivenAt 6000) 0 bandB 2 960 false 0 0
           ∷ row 31 (limit 80000) 0 bandB 2 960 false 0 0
-          ∷ row 32 (measure 0) 0 bandB 2 960 false 0 0
+          ∷ row 32 (measure noCurrents) 0 bandB 2 960 false 0 0
           ∷ row 33 clear 0 bandB 2 960 false 0 0
           ∷ row 34 (fault 9) 8 bandB 2 960 false 0 0
           ∷ row 40 (drivenAt 6000) 0 bandC 2 960 true 0 1
@@ -285,7 +286,7 @@ callsUnderFault =
       entries =
           row 50 (fault 5) 0 letterF 0 0 false 5 1
           ∷ row 51 (limit 80000) 0 letterF 0 0 false 5 1
-          ∷ row 52 (measure 0) 0 letterF 0 0 false 5 1
+          ∷ row 52 (measure noCurrents) 0 letterF 0 0 false 5 1
           ∷ row 53 tick 0 letterF 0 0 false 5 1
           ∷ row 54 (steadyAt 6000) 0 letterF 0 0 false 5 1
           ∷ row 55 clear 0 letterU 0 1000 false 0 1
@@ -297,11 +298,11 @@ abbrev pub callsInOverRun : Sequence
 callsInOverRun =
     record {
       start = at80A 0;
-      first = charging 0 80000 ++ (call 100 (measure 88001) ∷ call 105 (limit 80000) ∷ call 106 clear ∷ every 62 80 110 (drivenAt 6000));
+      first = charging 0 80000 ++ (call 100 (measure (onLine1 88001)) ∷ call 105 (limit 80000) ∷ call 106 clear ∷ every 62 80 110 (drivenAt 6000));
       entries =
-          row 5060 (drivenAt 6000) 0 bandC 2 960 true 0 1
-          ∷ row 5099 tick 0 bandC 2 960 true 0 1
-          ∷ row 5100 tick 0 letterF 0 0 false 2 1
+          showing (on 88001 0 0) 5060 (drivenAt 6000) 0 bandC 2 960 true 0 1
+          ∷ showing (on 88001 0 0) 5099 tick 0 bandC 2 960 true 0 1
+          ∷ showing (on 88001 0 0) 5100 tick 0 letterF 0 0 false 2 1
           ∷ [];
     }
 
@@ -334,6 +335,7 @@ unreachedBySample closed settled faults sound previous =
         overrun = empty;
         stop = empty;
         previous = previous;
+        lines = noCurrents;
       };
       closings = 7;
     }

@@ -9,6 +9,7 @@ use Rattle.window.specs.Evaluation.{refused}
 use Rattle.rules.specs.Begin.{beginRefusal, ratedAllowed, pauseAllowed}
 use Rattle.rules.specs.Calls.{sample, limit}
 use Rattle.rules.specs.Lent.{Lent, lentRefusal, waveAllowed, storedAllowed, timesAllowed, inRange, altered}
+use Rattle.rules.specs.Lines.{Lines}
 use Rattle.rules.specs.State.{Moment, noFaults, empty, setTo, forgotten}
 use Rattle.rules.specs.Refusals.{timeRefusal, limitAllowed, argumentRefusal}
 
@@ -40,6 +41,10 @@ BeginRowsHold =
     map (λ row. beginRefusal (record { time = row .time; rated = row .rated; pause = row .pause; ventilation = false })) beginRows
     ≡ map (λ row. row .number) beginRows
 
+-- currents above any that a measure brings: no number comes for them
+abbrev pub farAbove : Lines
+farAbove = record { line1 = 200001; line2 = 4294967295; line3 = 200001 }
+
 -- of a lent controller: wave, limit, rated, pause, the last accepted time, four stored times and closings
 abbrev pub lent : ℕ → ℕ → ℕ → ℕ → ℕ → Moment → Moment → Moment → Moment → ℕ → Lent
 lent wave current rated pause last sound opening overrun stop closings =
@@ -57,6 +62,7 @@ lent wave current rated pause last sound opening overrun stop closings =
         overrun = overrun;
         stop = stop;
         previous = forgotten;
+        lines = farAbove;
       };
       closings = closings;
     }

@@ -19,12 +19,13 @@ use Rattle.window.specs.Evaluation.{Evaluation, levels, readingAllowed}
 use Rattle.rules.specs.Answer.{begun, next, replyTo, lentAfter, repliesTo}
 use Rattle.rules.specs.Calls.{Event, Call, sample, limit, measure, fault, clear, tick, evaluatedCall, EvaluatedCall, evaluated, inTurn}
 use Rattle.rules.specs.Lent.{Lent, waveAllowed, storedAllowed, timesAllowed, inRange, altered, lentRefusal}
+use Rattle.rules.specs.Lines.{Lines, noCurrents, largest, lineAllowed, linesAllowed}
 use Rattle.rules.specs.Reply.{Reply, letter, digit, faultShown}
 use Rattle.rules.specs.Begin.{ratedAllowed, pauseAllowed, pauseFor, fresh}
 use Rattle.rules.specs.Pairs.{windowVerdict, verdict, paired, sameBand, inOneBand, bothProven, bothDiodeBad, bothUnsound}
-use Rattle.rules.specs.Refusals.{timeRefusal, kindAllowed, limitAllowed, measureAllowed, argumentRefusal}
+use Rattle.rules.specs.Refusals.{timeRefusal, kindAllowed, limitAllowed, argumentRefusal}
 use Rattle.rules.specs.State.{anyFault}
-use Rattle.rules.specs.Step1Event.{settledBy, soundBy, limitBy, withKind, faultsBy, currentOf, announced, isOver, overrunAt, overrunBy}
+use Rattle.rules.specs.Step1Event.{settledBy, soundBy, limitBy, linesBy, withKind, faultsBy, currentOf, announced, isOver, overrunAt, overrunBy}
 use Rattle.rules.specs.Step2Latches.{ranFor, overCurrent, unsettles, latched}
 use Rattle.rules.specs.Step3Wave.{isSettled, isUAE, unventilatedD, available, noDuty, sent, waveFor, overrunUnder, stopUnder}
 use Rattle.rules.specs.Step4Opening.{cause1, cause2, cause3, cause4, cause5, cause, opens}
@@ -44,7 +45,7 @@ pub record LevelCall : Type 0 where
 abbrev pub windowed : Event Levels → Event (List ℤ)
 windowed (sample window) = sample (squareWindow (window .high) (window .low))
 windowed (limit current) = limit current
-windowed (measure current) = measure current
+windowed (measure lines) = measure lines
 windowed (fault kind) = fault kind
 windowed clear = clear
 windowed tick = tick
@@ -87,13 +88,21 @@ abbrev pub every : ℕ → ℕ → ℕ → Event Levels → List LevelCall
 every zero gap time event = []
 every (suc n) gap time event = call time event ∷ every n gap (time + gap) event
 
--- a call and the reply to it: refusal, letter, digit, wave, contactor closed, fault, closings
-abbrev pub row : ℕ → Event Levels → ℕ → ℕ → ℕ → ℕ → Bool → ℕ → ℕ → Entry
-row time event number letter digit wave closed kind closings =
+-- the currents on the three lines
+abbrev pub on : ℕ → ℕ → ℕ → Lines
+on line1 line2 line3 = record { line1 = line1; line2 = line2; line3 = line3 }
+
+-- a call and the reply to it: the currents that it shows; refusal, letter, digit, wave, contactor closed, fault, closings
+abbrev pub showing : Lines → ℕ → Event Levels → ℕ → ℕ → ℕ → ℕ → Bool → ℕ → ℕ → Entry
+showing lines time event number letter digit wave closed kind closings =
     record {
       call = call time event;
-      reply = record { refusal = number; letter = letter; digit = digit; wave = wave; closed = closed; fault = kind; closings = closings };
+      reply = record { refusal = number; letter = letter; digit = digit; wave = wave; closed = closed; fault = kind; closings = closings; lines = lines };
     }
+
+-- the same with 0 on each line
+abbrev pub row : ℕ → Event Levels → ℕ → ℕ → ℕ → ℕ → Bool → ℕ → ℕ → Entry
+row = showing noCurrents
 
 -- the controllers of begin at a time: rated 32 A with a pause that begin names, and rated 32 A and 80 A with pause 0; no ventilation
 abbrev pub at32AWith : ℕ → ℕ → Lent
@@ -123,7 +132,7 @@ charging time current =
 abbrev pub isSquare : Event Levels → Bool
 isSquare (sample window) = leZ (window .low) (window .high) && (readingAllowed (window .high) && readingAllowed (window .low))
 isSquare (limit current) = true
-isSquare (measure current) = true
+isSquare (measure lines) = true
 isSquare (fault kind) = true
 isSquare clear = true
 isSquare tick = true
@@ -135,7 +144,7 @@ allSquare (first ∷ rest) = isSquare (first .event) && allSquare rest
 abbrev pub eventOf : Event Levels → Event Evaluation
 eventOf (sample window) = sample (levels (window .high) (window .low))
 eventOf (limit current) = limit current
-eventOf (measure current) = measure current
+eventOf (measure lines) = measure lines
 eventOf (fault kind) = fault kind
 eventOf clear = clear
 eventOf tick = tick
@@ -150,7 +159,7 @@ evaluated-is time (sample window) right =
     let two = and-parts (readingAllowed (window .high)) (readingAllowed (window .low)) (one .1) in
     ap (λ w. record { time = time; event = sample w }) (square-levels (window .high) (window .low) (one .0) (two .0) (two .1))
 evaluated-is time (limit current) right = refl
-evaluated-is time (measure current) right = refl
+evaluated-is time (measure lines) right = refl
 evaluated-is time (fault kind) right = refl
 evaluated-is time clear right = refl
 evaluated-is time tick right = refl
@@ -192,7 +201,7 @@ tells-by sequence lent right rights comes answers =
 
 -- a call computed on levels: what unfolds this unfolds every definition that a call goes through
 unfoldable pub computed : Lent → List LevelCall → Lent
-unfolding within strictlyBetween fromTo driven bandOf ready isBCD sound proven diodeBad verdictOf atMost allowed orRefusal dutyFor orElse greatestBelow readingOf next ratedAllowed pauseAllowed pauseFor fresh waveAllowed storedAllowed timesAllowed inRange altered lentRefusal windowVerdict verdict paired sameBand inOneBand bothProven bothDiodeBad bothUnsound timeRefusal kindAllowed limitAllowed measureAllowed argumentRefusal letter digit faultShown anyFault settledBy soundBy limitBy withKind faultsBy currentOf announced isOver overrunAt overrunBy ranFor overCurrent unsettles latched isSettled isUAE unventilatedD available noDuty sent waveFor overrunUnder stopUnder cause1 cause2 cause3 cause4 cause5 cause opens pauseOver closes closingsBy
+unfolding within strictlyBetween fromTo driven bandOf ready isBCD sound proven diodeBad verdictOf atMost allowed orRefusal dutyFor orElse greatestBelow readingOf next ratedAllowed pauseAllowed pauseFor fresh waveAllowed storedAllowed timesAllowed inRange altered lentRefusal windowVerdict verdict paired sameBand inOneBand bothProven bothDiodeBad bothUnsound timeRefusal kindAllowed limitAllowed largest lineAllowed linesAllowed argumentRefusal letter digit faultShown anyFault settledBy soundBy limitBy linesBy withKind faultsBy currentOf announced isOver overrunAt overrunBy ranFor overCurrent unsettles latched isSettled isUAE unventilatedD available noDuty sent waveFor overrunUnder stopUnder cause1 cause2 cause3 cause4 cause5 cause opens pauseOver closes closingsBy
 computed lent calls = lentOn lent calls
 
 lent-append : (lent : Lent) (first rest : List LevelCall) → lentOn lent (first ++ rest) ≡ lentOn (lentOn lent first) rest

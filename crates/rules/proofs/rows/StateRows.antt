@@ -8,6 +8,7 @@ use Rattle.rules.specs.Answer.{lentAfter}
 use Rattle.rules.specs.Begin.{fresh, pauseFor}
 use Rattle.rules.specs.Calls.{measure, fault, tick}
 use Rattle.rules.specs.Lent.{Lent}
+use Rattle.rules.specs.Lines.{noCurrents, onLine1}
 use Rattle.rules.proofs.rows.Sequences.{LevelCall, callOf, call, at80A}
 use Rattle.rules.specs.State.{Moment, Faults, noFaults, empty, setTo, forgotten}
 use Rattle.rules.proofs.rows.Sequences.{lent-on, computed}
@@ -29,6 +30,7 @@ FreshRow =
       overrun = record { set = false; time = 0 };
       stop = record { set = false; time = 0 };
       previous = record { kept = false; verdict = record { band = 0; sound = false; proven = false; diodebad = false } };
+      lines = record { line1 = 0; line2 = 0; line3 = 0 };
     }
 
 -- pauses as begin is given them, and as they are stored
@@ -44,9 +46,9 @@ FaultsRow =
     lentAfter (at80A 0) (map callOf faultCalls) .state .faults
     ≡ record { diode = false; overcurrent = false; residual = true; welded = true; temperature = true }
 
--- a controller that no list leads to, in range: wave, contactor, faults and stop as given
-abbrev pub unreachedByWave : ℕ → Bool → Faults → Moment → Lent
-unreachedByWave wave closed faults stop =
+-- a controller that no list leads to, in range: wave, contactor, faults, over-run and stop as given
+abbrev pub unreachedByWave : ℕ → Bool → Faults → Moment → Moment → Lent
+unreachedByWave wave closed faults overrun stop =
     record {
       state = record {
         settings = record { rated = 80000; pause = 3000; ventilation = false };
@@ -58,23 +60,33 @@ unreachedByWave wave closed faults stop =
         last = 100;
         sound = setTo 100;
         opening = empty;
-        overrun = empty;
+        overrun = overrun;
         stop = stop;
         previous = forgotten;
+        lines = noCurrents;
       };
       closings = 7;
     }
 
 -- a measure is judged by the wave as the call finds it: a steady one starts no over-run, though step 3 then drives it
 abbrev pub SteadyRow : Type 0
-SteadyRow = lentAfter (unreachedByWave 1000 true noFaults empty) (map callOf (call 110 (measure 200000) ∷ [])) .state .overrun ≡ empty
+SteadyRow = lentAfter (unreachedByWave 1000 true noFaults empty empty) (map callOf (call 110 (measure (onLine1 200000)) ∷ [])) .state .overrun ≡ empty
+
+-- a measure that is not judged, under a steady wave or with the contactor open, leaves an over-run running
+abbrev pub nothingDrawn : List LevelCall
+nothingDrawn = call 110 (measure noCurrents) ∷ []
+
+abbrev pub NotJudgedRow : Type 0
+NotJudgedRow =
+    (lentAfter (unreachedByWave 1000 true noFaults (setTo 50) empty) (map callOf nothingDrawn) .state .overrun ≡ setTo 50)
+    × (lentAfter (unreachedByWave 960 false noFaults (setTo 50) empty) (map callOf nothingDrawn) .state .overrun ≡ setTo 50)
 
 -- a wave of 0 neither starts nor ends a stop
 abbrev pub residual : Faults
 residual = record { diode = false; overcurrent = false; residual = true; welded = false; temperature = false }
 
 abbrev pub StopRow : Type 0
-StopRow = lentAfter (unreachedByWave 0 false residual (setTo 50)) (map callOf (call 110 tick ∷ [])) .state .stop ≡ setTo 50
+StopRow = lentAfter (unreachedByWave 0 false residual empty (setTo 50)) (map callOf (call 110 tick ∷ [])) .state .stop ≡ setTo 50
 
 pub fresh-row : FreshRow
 unfolding pauseFor fresh
@@ -90,8 +102,15 @@ faults-row = ap (λ l. l .state .faults) (lent-on (at80A 0) faultCalls refl)
 
 pub steady-row : SteadyRow
 unfolding computed
-steady-row = ap (λ l. l .state .overrun) (lent-on (unreachedByWave 1000 true noFaults empty) (call 110 (measure 200000) ∷ []) refl)
+steady-row = ap (λ l. l .state .overrun) (lent-on (unreachedByWave 1000 true noFaults empty empty) (call 110 (measure (onLine1 200000)) ∷ []) refl)
+
+pub not-judged-row : NotJudgedRow
+unfolding computed
+not-judged-row = (
+  ap (λ l. l .state .overrun) (lent-on (unreachedByWave 1000 true noFaults (setTo 50) empty) nothingDrawn refl),
+  ap (λ l. l .state .overrun) (lent-on (unreachedByWave 960 false noFaults (setTo 50) empty) nothingDrawn refl),
+)
 
 pub stop-row : StopRow
 unfolding computed
-stop-row = ap (λ l. l .state .stop) (lent-on (unreachedByWave 0 false residual (setTo 50)) (call 110 tick ∷ []) refl)
+stop-row = ap (λ l. l .state .stop) (lent-on (unreachedByWave 0 false residual empty (setTo 50)) (call 110 tick ∷ []) refl)

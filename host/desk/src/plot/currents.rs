@@ -5,6 +5,11 @@ use super::scale::{Panel, Scale};
 use super::svg::{Anchor, Svg};
 use super::track::{Run, Track};
 use super::{CURRENTS, CURRENTS_END, LEFT, RIGHT};
+use crate::words::largest;
+
+/// A measured current, and the ring around the largest of three, px.
+const DOT: f64 = 2.2;
+const RING: f64 = 3.8;
 
 /// Ends of the panel, A.
 const TOPS: [u32; 6] = [10, 20, 40, 60, 90, 200];
@@ -26,7 +31,7 @@ pub fn draw(svg: &mut Svg, track: &Track, scale: &Scale) {
     svg.text(8.0, CURRENTS - 6.0, 12.0, Anchor::Start, "title", "current");
     lines(svg, track, scale, &panel);
     svg.frame(LEFT, panel.top, RIGHT - LEFT, panel.height);
-    legend(svg);
+    legend(svg, track.three_lines);
 }
 
 fn lines(svg: &mut Svg, track: &Track, scale: &Scale, panel: &Panel) {
@@ -35,28 +40,49 @@ fn lines(svg: &mut Svg, track: &Track, scale: &Scale, panel: &Panel) {
     svg.path(&line(&track.rated), "rated");
     svg.path(&line(&track.announced), "announced");
     svg.path(&line(&track.limit), "limit");
-    let dot = |measured: &Run<u32>| Point {
-        x: place(measured).0,
-        y: place(measured).1,
-        joined: false,
+    let dots = |current: fn([u32; 3]) -> u32| {
+        reduce(track.measured.iter().map(|&(at, lines)| {
+            let (x, y) = place(&(at, current(lines)));
+            let joined = false;
+            Point { x, y, joined }
+        }))
     };
-    for dot in reduce(track.measured.iter().map(dot)) {
-        svg.circle(dot.x, dot.y, 2.2, "measured");
+    let mut draw = |current, radius, class| {
+        for dot in dots(current) {
+            svg.circle(dot.x, dot.y, radius, class);
+        }
+    };
+    if !track.three_lines {
+        return draw(|lines| lines[0], DOT, "measured");
     }
+    draw(|lines| lines[0], DOT, "line1");
+    draw(|lines| lines[1], DOT, "line2");
+    draw(|lines| lines[2], DOT, "line3");
+    draw(|lines| largest(lines).1, RING, "largest");
 }
 
 /// The least end that all currents stay below.
 fn most(track: &Track) -> u32 {
     let runs = track.limit.iter().chain(&track.rated);
-    let all = runs.chain(&track.measured).map(|run| run.1);
+    let measured = track.measured.iter().map(|run| largest(run.1).1);
+    let all = runs.map(|run| run.1).chain(measured);
     let greatest = all.max().unwrap_or(0);
     let above = |top: &&u32| **top * 1_000 > greatest;
     *TOPS.iter().find(above).unwrap_or(&TOPS[TOPS.len() - 1])
 }
 
-fn legend(svg: &mut Svg) {
+fn legend(svg: &mut Svg, three_lines: bool) {
+    let dots: &[(&str, &str, f64)] = match three_lines {
+        false => &[("measured", "measured", DOT)],
+        true => &[
+            ("line1", "line 1", DOT),
+            ("line2", "line 2", DOT),
+            ("line3", "line 3", DOT),
+            ("largest", "largest", RING),
+        ],
+    };
     let y = CURRENTS - 6.0;
-    let mut x = RIGHT - 420.0;
+    let mut x = RIGHT - 352.0 - 68.0 * dots.len() as f64;
     for (class, words, width) in [
         ("announced", "announced", 110.0),
         ("limit", "depot's limit", 118.0),
@@ -66,6 +92,9 @@ fn legend(svg: &mut Svg) {
         svg.text(x + 30.0, y, 11.0, Anchor::Start, "faint", words);
         x += width;
     }
-    svg.circle(x + 12.0, y - 4.0, 2.2, "measured");
-    svg.text(x + 20.0, y, 11.0, Anchor::Start, "faint", "measured");
+    for &(class, words, radius) in dots {
+        svg.circle(x + 12.0, y - 4.0, radius, class);
+        svg.text(x + 20.0, y, 11.0, Anchor::Start, "faint", words);
+        x += 68.0;
+    }
 }

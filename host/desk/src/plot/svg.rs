@@ -16,7 +16,10 @@ text{font-family:'DejaVu Sans',Verdana,Arial,sans-serif;fill:#24292f}\
 .announced{fill:none;stroke:#0969da;stroke-width:1.8}\
 .limit{fill:none;stroke:#bc4c00;stroke-width:1.4;stroke-dasharray:6 3}\
 .rated{fill:none;stroke:#8c959f;stroke-width:1;stroke-dasharray:1 3}\
-.measured{fill:#8250df}\
+.measured,.line1{fill:#8250df}\
+.line2{fill:#1b7c83}\
+.line3{fill:#9a6700}\
+.largest{fill:none;stroke:#24292f;stroke-width:1}\
 .dot{fill:#0a3069}\
 .opened{stroke:#cf222e;stroke-width:1.2}\
 .closed{stroke:#1a7f37;stroke-width:1.2}\

@@ -77,7 +77,10 @@ pub struct Track {
     pub limit: Vec<Run<u32>>,
     pub rated: Vec<Run<u32>>,
     pub announced: Vec<Run<u32>>,
-    pub measured: Vec<(u64, u32)>,
+    /// The currents of each measure; a single one is that of line 1.
+    pub measured: Vec<Run<[u32; 3]>>,
+    /// A measure has a current for each line.
+    pub three_lines: bool,
     pub closed: Vec<Run<bool>>,
     pub state: Vec<Run<(u8, u8)>>,
     pub faults: Vec<Run<[bool; 5]>>,
@@ -165,8 +168,9 @@ impl Track {
             });
             self.last_sample = Some(at);
         }
-        if let Call::Measure(_, current) = turn.call {
-            self.measured.push((at, *current));
+        if let Call::Measure(..) | Call::MeasureLines(..) = turn.call {
+            self.measured.push((at, turn.reply.lines.each()));
+            self.three_lines |= matches!(turn.call, Call::MeasureLines(..));
         }
         self.values(at, &turn.after, &turn.reply);
         self.mark(at, turn);

@@ -6,8 +6,8 @@ use Rattle.controller.proofs.Controller.event.Tie as tie
 
 returns : tie.Need-returns
 returns c =
-    let self = c .before .before .before .before .before .args .self in
-    rw (c .before .before .before .before .limit-by .ensures, c .before .before .before .settled-by .ensures, c .before .before .faults-by .ensures, c .before .sound-by .ensures, c .overrun-by .ensures (stateOf self) refl refl refl)
+    let self = c .before .before .before .before .before .before .args .self in
+    rw (c .before .before .before .before .before .limit-by .ensures, c .before .before .before .before .settled-by .ensures, c .before .before .before .faults-by .ensures, c .before .before .sound-by .ensures, c .before .overrun-by .ensures (stateOf self) refl refl refl, c .lines-by .ensures)
 
 pub event-spec : {M : Type 1} → statement M
-event-spec = tie.close (tie.spec (λ c κs. tt) (λ c κs. tt) (λ c κs. tt) (λ c κs. tt) (λ c κs. tt) returns)
+event-spec = tie.close (tie.spec (λ c κs. tt) (λ c κs. tt) (λ c κs. tt) (λ c κs. tt) (λ c κs. tt) (λ c κs. tt) returns)
