@@ -178,7 +178,8 @@ struct chuldariin_controller {
  * begin has zeros there.
  * It has 28 bytes, so a call returns it in memory, at an address that the caller passes first and C
  * hides. The 16 bytes of a version without `lines` came back in two registers: a host that was compiled
- * with such a header has to be compiled again. */
+ * with such a header has to be compiled again, and a controller that it wrote is not to be lent to this
+ * version: begin anew. */
 struct chuldariin_reply {
     uint8_t refusal;   /* 0 if accepted, else CHULDARIIN_REFUSED_... */
     uint8_t letter;    /* the state: 'A' to 'E', 'U' unsettled, 'F' a fault is latched */
@@ -233,8 +234,8 @@ CHULDARIIN_ASSERT(sizeof(struct chuldariin_duty_reply) == 8);
 
 /* ---- The calls. Times are in milliseconds, 0 to 1,000,000,000,000, and never go back but at begin. ---- */
 
-/* Starts afresh: nothing settled, wave 1000, contactor open, no fault, closings 0, and no pause to
- * wait for. So it opens a closed contactor, and drops what was latched. The limit is 0: nothing
+/* Starts afresh: nothing settled, wave 1000, contactor open, no fault, closings 0, no current on any
+ * line, and no pause to wait for. So it opens a closed contactor, and drops what was latched. The limit is 0: nothing
  * charges before a limit call. rated: 6,000 to 80,000 mA. pause: 1,000 to 60,000 ms, or 0 for 10,000.
  * Refused: 3, 1. */
 struct chuldariin_reply chuldariin_begin(struct chuldariin_controller *c, uint64_t time, uint32_t rated,
@@ -259,7 +260,8 @@ struct chuldariin_reply chuldariin_measure_lines(struct chuldariin_controller *c
                                                  uint32_t line2, uint32_t line3);
 
 /* For a post that measures one current, or hands over the largest: chuldariin_measure_lines with that
- * current on line 1, and 0 on the others. Refused: 3, 2, 1, 7. */
+ * current on line 1, and 0 on the others. Not once for each line, and not beside the call above: each
+ * measure replaces all three currents, and can end an over-run on another line. Refused: 3, 2, 1, 7. */
 struct chuldariin_reply chuldariin_measure(struct chuldariin_controller *c, uint64_t time, uint32_t current);
 
 /* A fault from outside: CHULDARIIN_FAULT_RESIDUAL, _WELDED or _TEMPERATURE. Refused: 3, 2, 1, 8. */

@@ -68,7 +68,7 @@ module _ {M : Type 1} (𝓤 : URA M) (H : Heap 𝓤) (𝓜 : Model 𝓤 H) (𝓖
   pub measure-lines-promises : Promises lines-call.ended lines-symbol.routine (λ κs a r e. AnswersLent (record { time = a .1 .0; event = measure (record { line1 = a .1 .1 .0; line2 = a .1 .1 .1 .0; line3 = a .1 .1 .1 .1 .0 }) }) (a .0) r (e .0))
   measure-lines-promises = lines-met.met 𝓤 H 𝓜 𝓖 𝓡
 
-  -- one current: that of the call above, on line 1
+  -- the promise above, for this current on line 1 and 0 on the others
   pub measure-promises : Promises measure-call.ended measure-symbol.routine (λ κs a r e. AnswersLent (record { time = a .1 .0; event = measure (onLine1 (a .1 .1 .0)) }) (a .0) r (e .0))
   measure-promises = measure-met.met 𝓤 H 𝓜 𝓖 𝓡
 

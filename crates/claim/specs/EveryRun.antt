@@ -43,7 +43,7 @@ pub record EveryRun (begin : Begin) (calls : List Call) (beginReply : Reply) (re
   -- the refusal number is the table's (so 0 exactly if the table has none), and the wave the replay's
   pub refusals : (k : ℕ) → k < length calls → replied beginReply replies (suc k) .refusal ≡ refusal (before begin calls k) (callAt begin calls k)
   pub waves : (k : ℕ) → k ≤ length calls → replied beginReply replies k .wave ≡ before begin calls k .wave
-  -- the currents that it shows are those of the last accepted measure, or 0 (document 02, b)
+  -- the currents that each reply shows are those of the last accepted measure, or 0 (document 02, b)
   pub lines-are : (k : ℕ) → k ≤ length calls → LastMeasured begin calls k (asLines (replied beginReply replies k .lines))
   -- demand 1: each number comes for its condition and for nothing else, and 1 never
   pub refused-by : (k : ℕ) → k < length calls → RefusedBy (lentOfReplies begin calls beginReply replies k) (getD calls k noCall) (replied beginReply replies (suc k) .refusal)

@@ -43,7 +43,7 @@ pub struct Controller {
     pub lines: Lines,
 }
 
-// A controller with nothing stored: no settled state, no previous sample, no fault, the contactor open.
+// A controller with nothing stored: no settled state, no previous sample, no fault, no current, the contactor open.
 pub fn blank(settings: Settings, wave: u32, last: Millis) -> Controller
     ensures { λ r. ⌜ view r ≡ blank (asSettings settings) wave (last .0) ⌝ }
 {

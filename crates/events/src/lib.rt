@@ -134,7 +134,7 @@ fn is_measure(event: Event) -> bool
     }
 }
 
-// The currents of a measure; 0 where the call is none.
+// The currents of a measure; 0 where the call is no measure.
 fn lines_of(event: Event) -> Lines
     ensures { λ r. ⌜ asLines r ≡ linesBy (asEvent event) noCurrents ⌝ }
 {
@@ -148,7 +148,7 @@ fn lines_of(event: Event) -> Lines
     }
 }
 
-// A measure's currents are kept, whatever the contactor and the wave.
+// A measure's currents are kept, whatever the contactor and the wave: chosen line by line, for speed.
 pub fn lines_by(event: Event, stored: Lines) -> Lines
     ensures { λ r. ⌜ asLines r ≡ linesBy (asEvent event) (asLines stored) ⌝ }
 {

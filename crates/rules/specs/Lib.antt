@@ -1,4 +1,4 @@
--- The controller of document 01, and what is claimed of every list of calls.
+-- The controller of documents 01 and 02, and what is claimed of every list of calls.
 pub mod Lines
 pub mod State
 pub mod Calls

@@ -3,7 +3,7 @@ use mathlib.Core.Bool.{Bool, _&&_}
 use Prim.Native.Nat.{ℕ, max}
 use lib.Dec.{leb}
 
--- three currents, one for each line
+-- the currents of lines 1, 2 and 3
 pub record Lines : Type 0 where
   pub line1 : ℕ
   pub line2 : ℕ
@@ -13,7 +13,7 @@ pub record Lines : Type 0 where
 abbrev pub noCurrents : Lines
 noCurrents = record { line1 = 0; line2 = 0; line3 = 0 }
 
--- what an old measure with one current acts as: that current on line 1, and 0 on the others
+-- an old measure with one current, as three: lines 2 and 3 have 0
 abbrev pub onLine1 : ℕ → Lines
 onLine1 current = record { line1 = current; line2 = 0; line3 = 0 }
 

@@ -1,4 +1,4 @@
--- What the replay keeps (document 01, demand 3), and nothing else. Times are in milliseconds, currents in milliamps.
+-- What the replay keeps (document 01, demand 3; the lines: document 02, b), and nothing else. Times are in milliseconds, currents in milliamps.
 use mathlib.Core.Bool.{Bool, true, false, _||_, cond}
 use Prim.Native.Nat.{ℕ}
 use Rattle.units.specs.Range.{ago, longerAgo}

@@ -198,7 +198,7 @@ fn overrun(turn: &Turn, notes: &mut Vec<Note>) {
     let words = match (turn.before.overrun, turn.after.overrun, turn.call) {
         (None, Some(start), call) => format!(
             "over-run starts: {} is above {}; fault 2 at {} unless it ends",
-            drawn(call),
+            judged_current(call, &turn.after),
             allowed(&turn.before),
             start + OVERRUN_AGE
         ),
@@ -211,14 +211,11 @@ fn overrun(turn: &Turn, notes: &mut Vec<Note>) {
 }
 
 /// What was judged of a measure: its current, or the largest of three with its line.
-fn drawn(call: &Call) -> String {
+fn judged_current(call: &Call, after: &State) -> String {
+    let (line, current) = largest(after.lines);
     match call {
-        Call::Measure(_, current) => format!("{} mA", grouped(*current)),
-        Call::MeasureLines(_, lines) => {
-            let (line, current) = largest(*lines);
-            format!("{} mA on line {line}", grouped(current))
-        }
-        _ => unreachable!("only a measure starts an over-run"),
+        Call::Measure(..) => format!("{} mA", grouped(current)),
+        _ => format!("{} mA on line {line}", grouped(current)),
     }
 }
 

@@ -102,7 +102,7 @@ impl Table {
     /// What stands in the column for the lines, if there is one.
     fn lines_column(&self, words: &str) -> String {
         match self.three_lines {
-            true => format!("  {words:<20}"),
+            true => format!("  {words:<23}"),
             false => String::new(),
         }
     }

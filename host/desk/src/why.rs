@@ -135,12 +135,12 @@ fn heading(
         state(last.reply.letter, last.reply.digit),
         wave(last.reply.wave),
         last.reply.closings,
-        drawn(last)
+        last_measure(last)
     )
 }
 
 /// The current on each line, where there is any.
-fn drawn(last: &Turn) -> String {
+fn last_measure(last: &Turn) -> String {
     match last.reply.lines.each() {
         [0, 0, 0] => String::new(),
         each => format!(", last measure {} mA", lines(each)),

@@ -3,8 +3,8 @@
 //! It was made from document 01, the paper that states the rules, and requests a
 //! and b of document 02, by which pause 0 means 10,000 and a measure has a current
 //! for every line, without sight of the controller that it is held against, call
-//! by call. Its interface and readings 1, 3 and 5 below were given. It is slow and
-//! obvious on purpose.
+//! by call. Its interface, readings 1, 3, 5 and 22 below and the first sentence of
+//! 18 were given. It is slow and obvious on purpose.
 //!
 //! | File | What it holds |
 //! |---|---|

@@ -160,8 +160,8 @@ impl Tally {
         if changed && !before.closed {
             self.count("lines", "kept open");
         }
-        if changed && !driven(before.wave) {
-            self.count("lines", "kept under a steady wave");
+        if changed && before.closed && !driven(before.wave) {
+            self.count("lines", "kept in a stop");
         }
         let most = lines.into_iter().max().unwrap_or(0);
         let starts = before.overrun.is_none() && after.overrun.is_some();

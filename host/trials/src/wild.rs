@@ -133,7 +133,7 @@ fn wild_moment(dice: &mut Dice, last: u64, ages: &[u64]) -> raw::Moment {
     raw::Moment { set, time }
 }
 
-/// Above what a measure may bring in every second controller.
+/// In every second controller they may be above what a measure can bring.
 fn wild_lines(dice: &mut Dice) -> raw::Lines {
     let above = dice.one_in(2);
     let mut line = || match above {

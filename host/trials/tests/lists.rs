@@ -58,11 +58,7 @@ const WANTED: [(&str, &[&str]); 16] = [
     ("lines", &STARTS_ON),
     (
         "lines",
-        &[
-            "kept open",
-            "kept under a steady wave",
-            "over together, none alone",
-        ],
+        &["kept open", "kept in a stop", "over together, none alone"],
     ),
     ("refused lines", &ABOVE_ON),
 ];

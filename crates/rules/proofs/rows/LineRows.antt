@@ -1,8 +1,11 @@
 -- The current on each line (document 02, b): what is kept and shown, and what is refused.
 use mathlib.Core.Bool.{true, false}
 use mathlib.Core.List.{List, [], _∷_}
-use mathlib.Core.Path.{refl}
+use mathlib.Core.Path.{_≡_, refl}
+use Prim.Native.Nat.{ℕ}
 use Rattle.pilot.specs.Bands.{bandB, bandC}
+use Rattle.rules.specs.Answer.{answerToBegin}
+use Rattle.rules.specs.Begin.{Begin, beginRefusal}
 use Rattle.rules.specs.Calls.{limit, measure, fault, clear, tick}
 use Rattle.rules.specs.Lent.{Lent}
 use Rattle.rules.specs.Lines.{noCurrents, onLine1}
@@ -10,7 +13,7 @@ use Rattle.rules.specs.Reply.{letterF, letterU}
 use Rattle.rules.specs.State.{noFaults, empty, setTo, forgotten}
 use Rattle.rules.proofs.rows.Sequences.{Sequence, steadyAt, drivenAt, on, row, showing, at80A, charging, Tells, AllTell, tells-by, computed}
 
--- 0 at the start; kept under a steady wave, under a driven one with the contactor open, and closed; every other call shows them, also one that is
+-- 0 at the start; kept with the contactor open and closed, under a steady wave and under a driven one; every other call shows them, also one that is
 -- refused
 abbrev pub linesKept : Sequence
 linesKept =
@@ -28,6 +31,10 @@ linesKept =
           ∷ showing (on 500 700 600) 45 (measure (on 500 700 600)) 0 bandC 2 960 true 0 1
           ∷ showing (on 500 700 600) 45 tick 0 bandC 2 960 true 0 1
           ∷ showing (on 500 700 600) 44 tick 2 bandC 2 960 true 0 1
+          ∷ showing (on 500 700 600) 46 (limit 0) 0 bandC 1 1000 true 0 1
+          ∷ showing (on 600 700 500) 47 (measure (on 600 700 500)) 0 bandC 1 1000 true 0 1
+          ∷ showing (on 600 700 500) 48 (limit 80000) 0 bandC 2 960 true 0 1
+          ∷ showing (on 500 700 600) 49 (measure (on 500 700 600)) 0 bandC 2 960 true 0 1
           ∷ showing (on 500 700 600) 50 (fault 9) 8 bandC 2 960 true 0 1
           ∷ showing (on 500 700 600) 50 (fault 3) 0 letterF 0 0 false 3 1
           ∷ showing (on 4 0 0) 55 (measure (onLine1 4)) 0 letterF 0 0 false 3 1
@@ -88,6 +95,16 @@ linesLent =
           ∷ [];
     }
 
+-- begin, lent this controller: refused, zeros beside the number, and the controller keeps its currents; accepted, 0 on each line
+abbrev pub beginAt : ℕ → Begin
+beginAt rated = record { time = 0; rated = rated; pause = 3000; ventilation = false }
+
+abbrev pub BeginRow : Type 0
+BeginRow =
+    (answerToBegin aboveAll (beginAt 5999)
+    ≡ record { lent = aboveAll; reply = record { refusal = 1; letter = 0; digit = 0; wave = 0; closed = false; fault = 0; closings = 0; lines = on 0 0 0 } })
+    × (answerToBegin aboveAll (beginAt 6000) .reply .lines ≡ on 0 0 0)
+
 abbrev pub lineRows : List Sequence
 lineRows = linesKept ∷ linesRefused ∷ linesLent ∷ []
 
@@ -102,6 +119,10 @@ lines-refused = tells-by linesRefused _ refl refl refl refl
 lines-lent : Tells linesLent
 unfolding computed
 lines-lent = tells-by linesLent _ refl refl refl refl
+
+pub begin-row : BeginRow
+unfolding computed answerToBegin beginRefusal
+begin-row = (refl, refl)
 
 pub line-rows : AllTell lineRows
 line-rows = (lines-kept, (lines-refused, (lines-lent, tt)))
