@@ -206,6 +206,9 @@ struct chuldariin_duty_reply {
 
 /* The layout that the archive was compiled for. */
 CHULDARIIN_ASSERT(sizeof(bool) == 1);
+CHULDARIIN_ASSERT(sizeof(struct chuldariin_settings) == 16);
+CHULDARIIN_ASSERT(offsetof(struct chuldariin_settings, rated) == 8);
+CHULDARIIN_ASSERT(offsetof(struct chuldariin_settings, ventilation) == 12);
 CHULDARIIN_ASSERT(sizeof(struct chuldariin_controller) == 128);
 CHULDARIIN_ASSERT(CHULDARIIN_ALIGNOF(struct chuldariin_controller) == 8);
 CHULDARIIN_ASSERT(offsetof(struct chuldariin_controller, limit) == 16);
@@ -235,9 +238,9 @@ CHULDARIIN_ASSERT(sizeof(struct chuldariin_duty_reply) == 8);
 /* ---- The calls. Times are in milliseconds, 0 to 1,000,000,000,000, and never go back but at begin. ---- */
 
 /* Starts afresh: nothing settled, wave 1000, contactor open, no fault, closings 0, no current on any
- * line, and no pause to wait for. So it opens a closed contactor, and drops what was latched. The limit is 0: nothing
- * charges before a limit call. rated: 6,000 to 80,000 mA. pause: 1,000 to 60,000 ms, or 0 for 10,000.
- * Refused: 3, 1. */
+ * line, and no pause to wait for. So it opens a closed contactor, and drops what was latched. The limit
+ * is 0: nothing charges before a limit call. rated: 6,000 to 80,000 mA. pause: 1,000 to 60,000 ms, or 0
+ * for 10,000. Refused: 3, 1. */
 struct chuldariin_reply chuldariin_begin(struct chuldariin_controller *c, uint64_t time, uint32_t rated,
                                          uint64_t pause, bool ventilation);
 

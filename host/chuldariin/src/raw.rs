@@ -239,6 +239,7 @@ const _: () = {
     assert!(size_of::<Settings>() == 16 && size_of::<Moment>() == 16);
     assert!(size_of::<Faults>() == 5 && size_of::<Verdict>() == 4 && size_of::<Previous>() == 5);
     assert!(size_of::<ReadingReply>() == 8 && size_of::<DutyReply>() == 8);
+    assert!(offset_of!(Settings, rated) == 8 && offset_of!(Settings, ventilation) == 12);
     assert!(offset_of!(Controller, limit) == 16 && offset_of!(Controller, wave) == 20);
     assert!(offset_of!(Controller, closed) == 24 && offset_of!(Controller, settled) == 25);
     assert!(offset_of!(Controller, faults) == 26 && offset_of!(Controller, last) == 32);

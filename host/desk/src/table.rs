@@ -8,6 +8,9 @@ use chuldariin_log::{Call, Entry, Line};
 use chuldariin_model::Verdict;
 use std::io::{self, Write};
 
+/// The width of the column for the current on each line: 200,000 three times.
+const LINES: usize = 23;
+
 /// Writes the lines of a replay.
 pub struct Table {
     paint: Paint,
@@ -35,10 +38,13 @@ impl Table {
     }
 
     pub fn heading(&self, out: &mut impl Write) -> io::Result<()> {
+        let lines = match self.three_lines {
+            true => format!("  {:<LINES$}", "lines 1, 2, 3 (mA)"),
+            false => String::new(),
+        };
         let text = format!(
-            "{:>line$}  {:>time$}  {:<24}  {:<10}  {:<5}  {:<16}  {:<9}  {:<19}  {:>8}{}  what happened",
+            "{:>line$}  {:>time$}  {:<24}  {:<10}  {:<5}  {:<16}  {:<9}  {:<19}  {:>8}{lines}  what happened",
             "line", "ms", "call", "sample", "state", "wave", "contactor", "fault", "closings",
-            self.lines_column("lines 1, 2, 3 (mA)"),
             line = self.line_width,
             time = self.time_width,
         );
@@ -61,10 +67,12 @@ impl Table {
             time = self.time_width,
         )?;
         self.reply_columns(out, turn)?;
-        let column = self.lines_column(&shown_lines(turn));
-        match notes.is_empty() {
-            true => write!(out, "{}", column.trim_end())?,
-            false => write!(out, "{column}")?,
+        if self.three_lines {
+            // Nothing is written behind the last word.
+            match notes.is_empty() {
+                true => write!(out, "  {}", shown_lines(turn))?,
+                false => write!(out, "  {:<LINES$}", shown_lines(turn))?,
+            }
         }
         for (place, note) in notes.iter().enumerate() {
             let apart = if place == 0 { "  " } else { "; " };
@@ -97,14 +105,6 @@ impl Table {
             self.paint.colour(Colour::Red, &fault),
             reply.closings,
         )
-    }
-
-    /// What stands in the column for the lines, if there is one.
-    fn lines_column(&self, words: &str) -> String {
-        match self.three_lines {
-            true => format!("  {words:<23}"),
-            false => String::new(),
-        }
     }
 
     fn note(&self, note: &Note) -> String {
