@@ -149,6 +149,7 @@ impl Post {
     }
 
     /// One current, 0 to 200,000 mA: [`Post::measure_lines`] with that current on line 1, and 0 on the others.
+    /// Each measure replaces all three, so a host uses one of the two calls.
     pub fn measure(&mut self, time: Millis, current: Milliamps) -> Result<Reply, Refusal> {
         // SAFETY: as in begin_again.
         reply::accepted(unsafe { raw::chuldariin_measure(&mut self.controller, time.0, current.0) })
