@@ -10,7 +10,7 @@ use lib.ListN.{length, getD}
 use Rattle.rules.specs.Begin.{Begin, fresh}
 use Rattle.rules.specs.Calls.{Event, Call, EvaluatedCall, sample, limit, measure, fault, clear, tick, evaluated, isMeasure, inTurn}
 use Rattle.rules.specs.LastMeasured.{Measures, NoneFrom, LastMeasured, by-measure, not-yet}
-use Rattle.rules.specs.Lines.{Lines}
+use Rattle.rules.specs.Lines.{Lines, noCurrents}
 use Rattle.rules.specs.Replay.{isAccepted, replay}
 use Rattle.rules.specs.State.{State}
 use Rattle.rules.specs.Step1Event.{linesBy}
@@ -68,3 +68,18 @@ module _ (begin : Begin) (calls : List Call) where
   unfolding replay inTurn fresh
   last-measured zero within = not-yet (λ i lines from before measures. absurd (omega arith)) refl
   last-measured (suc k) within = next k within (last-measured k (omega arith))
+
+  -- and no other currents are: the statement leaves one answer
+  pub last-fixes : (k : ℕ) (a b : Lines) → LastMeasured begin calls k a → LastMeasured begin calls k b → a ≡ b
+  unfolding linesBy evaluated
+  last-fixes k a b (by-measure i before measures quiet) (by-measure j before' measures' quiet') = go (decLt i j) (decLt j i)
+    where
+      go : Dec (i < j) → Dec (j < i) → a ≡ b
+      go (yes earlier) other = absurd (quiet j b earlier before' measures')
+      go (no not-earlier) (yes later) = absurd (quiet' i a later before measures)
+      go (no not-earlier) (no not-later) =
+          let same : i ≡ j = omega arith in
+          ap (λ event. linesBy (evaluated event) noCurrents) (sym (measures .brings) ∙ ap (λ n. getD calls n noCall .event) same ∙ measures' .brings)
+  last-fixes k a b (by-measure i before measures quiet) (not-yet none is) = absurd (none i a (omega arith) before measures)
+  last-fixes k a b (not-yet none is) (by-measure j before measures quiet) = absurd (none j b (omega arith) before measures)
+  last-fixes k a b (not-yet none is) (not-yet none' is') = is ∙ sym is'

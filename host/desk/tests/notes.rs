@@ -8,6 +8,15 @@ fn replayed(log: &str) -> String {
     answer(&["replay", "-"], log)
 }
 
+/// The changes of a log, and which of its lines they are.
+fn changes(log: &str) -> (String, Vec<String>) {
+    let answer = answer(&["replay", "-", "--only", "changes"], log);
+    let table = answer.split("\n\nsummary").next().expect("a table");
+    let rows = table.lines().skip(1);
+    let numbers = rows.map(|row| row[..4].trim().to_string()).collect();
+    (answer, numbers)
+}
+
 #[test]
 fn rare_calls() {
     for (calls, start, note) in [
@@ -62,10 +71,8 @@ fn a_column_for_three_lines() {
 #[test]
 fn currents_alone_are_no_change() {
     let log = format!("{CHARGE}measure 50 1 2 3\nmeasure 60 4 5 6\ntick 121\n");
-    let answer = answer(&["replay", "-", "--only", "changes"], &log);
-    let table = answer.split("\n\nsummary").next().expect("a table");
-    let lines: Vec<&str> = table.lines().skip(1).map(|row| row[..4].trim()).collect();
-    assert_eq!(lines, ["1", "4", "6", "9"]);
+    let (answer, shown) = changes(&log);
+    assert_eq!(shown, ["1", "4", "6", "9"]);
     assert!(line(&answer, "9 ").contains("  4 5 6  "), "{answer}");
 }
 
@@ -78,10 +85,7 @@ fn a_comment_can_do_no_harm() {
 #[test]
 fn a_refused_begin_changes_nothing() {
     let log = format!("{CHARGE}begin 50 1 0 no\ntick 60\n");
-    let answer = answer(&["replay", "-", "--only", "changes"], &log);
-    let table = answer.split("\n\nsummary").next().expect("a table");
-    let lines: Vec<&str> = table.lines().skip(1).map(|row| row[..4].trim()).collect();
-    assert_eq!(lines, ["1", "4", "6", "7"]);
+    assert_eq!(changes(&log).1, ["1", "4", "6", "7"]);
 }
 
 #[test]
