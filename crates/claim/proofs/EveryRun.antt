@@ -76,6 +76,7 @@ module _ (begin : Begin) (calls : List Call) (begins : Reply) (replies : List Re
         refusals = λ k below. ap (λ r. r .refusal) (replies-are (suc k) below) ∙ list .refusals k below;
         waves = λ k within. ap (λ r. r .wave) (replies-are k within) ∙ list .waves k within;
         lines-are = λ k within. subst (LastMeasured begin calls k) (sym (ap (λ r. r .lines) (replies-are k within))) (list .lines-are k within);
+        over-current = list .over-current;
         contactor-held =
             ap (λ l. l .state .closed) final-lent ∙ list .held (length calls) (omega arith) ∙ sym (ap (λ r. r .closed) whole);
         closings-held =

@@ -14,6 +14,7 @@ use Rattle.rules.specs.Every20.{ClosedIsSound}
 use Rattle.rules.specs.EveryList.{Reached}
 use Rattle.rules.specs.LastMeasured.{LastMeasured}
 use Rattle.rules.specs.Lent.{Lent}
+use Rattle.rules.specs.OverCurrent.{OverCurrentExactly}
 use Rattle.rules.specs.Refusals.{refusal}
 use Rattle.rules.specs.RefusalsAre.{Altered, RefusedBy}
 use Rattle.rules.specs.Replay.{replay}
@@ -45,6 +46,9 @@ pub record EveryRun (begin : Begin) (calls : List Call) (beginReply : Reply) (re
   pub waves : (k : ℕ) → k ≤ length calls → replied beginReply replies k .wave ≡ before begin calls k .wave
   -- the currents that each reply shows are those of the last accepted measure, or 0 (document 02, b)
   pub lines-are : (k : ℕ) → k ≤ length calls → LastMeasured begin calls k (asLines (replied beginReply replies k .lines))
+  -- fault 2 comes exactly with a call that finds the van over its bound for 5,000 or longer, and with 5,000 or longer to follow each lowered duty
+  -- (document 02, c)
+  pub over-current : OverCurrentExactly begin calls
   -- demand 1: each number comes for its condition and for nothing else, and 1 never
   pub refused-by : (k : ℕ) → k < length calls → RefusedBy (lentOfReplies begin calls beginReply replies k) (getD calls k noCall) (replied beginReply replies (suc k) .refusal)
   pub never-1 : (k : ℕ) → k < length calls → _≡_ {A = ℕ} (replied beginReply replies (suc k) .refusal) 1 → ⊥

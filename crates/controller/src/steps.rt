@@ -79,7 +79,7 @@ impl Controller {
         let faulted = self.faults.any();
         let available = self.settings.rated.lesser(self.limit);
         let wave = waves::wave_for(faulted, available, self.settled, self.settings.ventilation);
-        let overrun = waves::overrun_under(wave, self.overrun);
+        let overrun = waves::overrun_under(time, self.wave, wave, self.overrun);
         let stop = waves::stop_under(time, wave, self.closed, self.stop);
         self.wave = wave;
         self.overrun = overrun;

@@ -16,6 +16,7 @@ use Rattle.rules.specs.Traces.{before, callAt, replyBefore, answered}
 use Rattle.rules.proofs.Every20.{closed-is-sound}
 use Rattle.rules.proofs.LastMeasured.{last-measured}
 use Rattle.rules.proofs.LentReplies.{lent-refusal, lent-is, tally-not-altered, reply-is, contactor-told, closings-told, demand3}
+use Rattle.rules.proofs.OverCurrent.{over-current}
 use Rattle.rules.proofs.Reaching.{list-reaches}
 use Rattle.rules.proofs.Stepped.{step-to}
 
@@ -48,6 +49,7 @@ every-list begin calls accepted =
       waves = reply-is begin calls accepted (λ l. l .state .wave) (λ k. replyBefore begin calls k .wave) refl (λ k. refl);
       lines-are = λ k within.
           rw (reply-is begin calls accepted (λ l. l .state .lines) (λ k. replyBefore begin calls k .lines) refl (λ k. refl) k within) (last-measured begin calls k within);
+      over-current = over-current begin calls accepted;
       states-are = λ k within. ap (λ l. l .state) (lent-is begin calls accepted k within);
       held = λ k within. ap (λ l. l .state .closed) (lent-is begin calls accepted k within) ∙ sym (contactor-told begin calls accepted k within);
       carried = λ k within. ap (λ l. l .closings) (lent-is begin calls accepted k within) ∙ sym (closings-told begin calls accepted k within);

@@ -2,7 +2,7 @@
 use mathlib.Core.Path.{_≡_, refl, sym, _∙_, ap}
 use mathlib.Core.Bool.{Bool, true, false, _&&_, cond}
 use mathlib.Core.List.{List}
-use Prim.Native.Nat.{ℕ, zero, suc, _≤_}
+use Prim.Native.Nat.{ℕ, zero, suc, _≤_, _<_}
 use native.Mathlib.Omega.{arith}
 use lib.Dec.{eqb}
 use lib.ListN.{length, take}
@@ -23,7 +23,7 @@ use Rattle.rules.proofs.Ranges.{range-whole}
 use Rattle.rules.proofs.Replayed.{memoryOf, Follows, lawful, demand3-told}
 use Rattle.rules.proofs.Stepped.{before-next, step-by}
 use Rattle.rules.proofs.Turns.{turn-next}
-use Rattle.rules.proofs.Spacing.{at-most, counts}
+use Rattle.rules.proofs.Spacing.{not-before, at-most, counts}
 
 -- a controller that was not altered is refused what the table refuses
 pub lent-refusal : (lent : Lent) (call : EvaluatedCall) → altered lent ≡ false → lentRefusal lent call ≡ refusal (lent .state) call
@@ -71,6 +71,12 @@ module _ (begin : Begin) (calls : List Call) (accepted : beginRefusal begin ≡ 
       let laws = lawful begin calls _ tally by-replay accepted in
       rw (counts (traceOf begin calls (λ k. before begin calls k .closed) tally) (memoryOf begin calls) laws k within)
       (at-most (traceOf begin calls (λ k. before begin calls k .closed) tally) (memoryOf begin calls) laws k within)
+
+  -- the clock: an accepted call is not later than the last accepted one
+  pub last-not-before : (i k : ℕ) → isAccepted (before begin calls i) (callAt begin calls i) ≡ true → i < k → k ≤ length calls
+      → callAt begin calls i .time ≤ before begin calls k .last
+  last-not-before =
+      not-before (traceOf begin calls (λ k. before begin calls k .closed) tally) (memoryOf begin calls) (lawful begin calls _ tally by-replay accepted)
 
   -- no list leads to a controller that refusal 1 names
   pub tally-not-altered : (k : ℕ) → k ≤ length calls → altered (record { state = before begin calls k; closings = tally k }) ≡ false

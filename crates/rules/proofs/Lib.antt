@@ -24,6 +24,8 @@ pub mod Held
 pub mod Reaching
 pub mod Every20
 pub mod LastMeasured
+pub mod Overruns
+pub mod OverCurrent
 pub mod EveryList
 pub mod Altered
 pub mod RefusalsAre

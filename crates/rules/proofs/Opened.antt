@@ -6,9 +6,9 @@ use Rattle.units.specs.Wave.{driven}
 use Rattle.window.specs.Evaluation.{Evaluation}
 use Rattle.rules.specs.Accepted.{opensAt, closesAt, afterLatch, afterWave, accept}
 use Rattle.rules.specs.Calls.{Event, sample, limit, measure, fault, clear, tick, EvaluatedCall}
-use Rattle.rules.specs.State.{State, Moment, empty}
+use Rattle.rules.specs.State.{State, Moment, empty, setTo}
 use Rattle.rules.specs.Step1Event.{overrunAt, overrunBy}
-use Rattle.rules.specs.Step3Wave.{waveFor, overrunUnder, stopUnder}
+use Rattle.rules.specs.Step3Wave.{waveFor, lowersDuty, restarts, overrunUnder, stopUnder}
 use Rattle.rules.proofs.Booleans.{clash}
 
 -- while the contactor is open no over-run and no stop begins
@@ -44,9 +44,13 @@ module _ (s : State) (call : EvaluatedCall) where
       go false false m p q f = from-before q p
       go true false m p q f = clash refl f
 
-  ends-overrun : (wave : ℕ) (m : Moment) → m .set ≡ false → overrunUnder wave m .set ≡ false
-  unfolding overrunUnder
-  ends-overrun wave m none = either-unset (driven wave) m empty none refl
+  none-restarts : (wave : ℕ) (m : Moment) → m .set ≡ false → overrunUnder (call .time) (s .wave) wave m .set ≡ false
+  unfolding overrunUnder restarts
+  none-restarts wave m none = either-unset (driven wave) _ empty (go (lowersDuty (s .wave) wave)) refl
+    where
+      go : (b : Bool) → cond (b && m .set) (setTo (call .time)) m .set ≡ false
+      go true = rw none
+      go false = none
 
   pub no-overrun : (s .closed ≡ false → s .overrun .set ≡ false) → accept s call .closed ≡ false → accept s call .overrun .set ≡ false
   no-overrun before e = go (stays-open e)
@@ -55,7 +59,7 @@ module _ (s : State) (call : EvaluatedCall) where
       go (by-call o) = ap (λ b. cond b empty (afterWave s call .overrun) .set) o
       go (from-before o c) =
           either-unset (opensAt s call) empty (afterWave s call .overrun) refl
-          (ends-overrun (waveFor (afterLatch s call)) (overrunBy (call .time) (call .event) s)
+          (none-restarts (waveFor (afterLatch s call)) (overrunBy (call .time) (call .event) s)
           (ap (λ m. m .set) (overrun-open s (call .time) c (call .event)) ∙ before c))
 
   pub no-stop : (s .closed ≡ false → s .stop .set ≡ false) → accept s call .closed ≡ false → accept s call .stop .set ≡ false
@@ -70,8 +74,12 @@ module _ (s : State) (call : EvaluatedCall) where
   unfolding overrunUnder
   runs-driven e = go (opensAt s call) (driven (accept s call .wave)) refl e
     where
+      began : Moment
+      began = overrunBy (call .time) (call .event) s
+
       go : (o d : Bool) → driven (accept s call .wave) ≡ d
-          → cond o empty (cond d (overrunBy (call .time) (call .event) s) empty) .set ≡ true → driven (accept s call .wave) ≡ true
+          → cond o empty (cond d (cond (restarts (s .wave) (accept s call .wave) began) (setTo (call .time)) began) empty) .set ≡ true
+          → driven (accept s call .wave) ≡ true
       go true d p f = clash refl (sym f)
       go false true p f = p
       go false false p f = clash refl (sym f)

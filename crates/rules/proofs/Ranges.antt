@@ -19,7 +19,7 @@ use Rattle.rules.specs.Refusals.{limitAllowed, argumentRefusal}
 use Rattle.rules.specs.Replay.{isAccepted}
 use Rattle.rules.specs.State.{State, Moment, empty, setTo, startedBy}
 use Rattle.rules.specs.Step1Event.{isOver, announced, soundBy, limitBy, overrunAt, overrunBy}
-use Rattle.rules.specs.Step3Wave.{waveFor, overrunUnder, stopUnder}
+use Rattle.rules.specs.Step3Wave.{waveFor, restarts, overrunUnder, stopUnder}
 use Rattle.rules.proofs.Acceptance.{arguments-right, on-time}
 use Rattle.rules.proofs.Booleans.{not-refused}
 use Rattle.rules.proofs.Waves.{wave-allowed}
@@ -124,6 +124,7 @@ module _ (s : State) (call : EvaluatedCall) where
       let overrun = overrun-stored (call .event) (later-stored time (s .last) (s .overrun) past (was .overrun)) in
       let stop = later-stored time (s .last) (s .stop) past (was .stop) in
       let wave = waveFor (afterLatch s call) in
+      let began = overrunBy time (call .event) s in
       record {
         wave = wave-allowed (afterLatch s call);
         limit = limit-right (call .event) (arguments-right s call into) (was .limit);
@@ -132,7 +133,7 @@ module _ (s : State) (call : EvaluatedCall) where
         sound = either-stored time (pairAt s call .sampled && pairAt s call .this .sound) (setTo time) (s .sound) (now-stored time) sound;
         opening = either-stored time (opensAt s call) (setTo time) (s .opening) (now-stored time) opening;
         overrun = either-stored time (opensAt s call) empty (afterWave s call .overrun) (none-stored time)
-            (either-stored time (driven wave) (overrunBy time (call .event) s) empty overrun (none-stored time));
+            (either-stored time (driven wave) _ empty (either-stored time (restarts (s .wave) wave began) (setTo time) began (now-stored time) overrun) (none-stored time));
         stop = either-stored time (opensAt s call) empty (afterWave s call .stop) (none-stored time) (stop-stored time wave stop);
       }
     where

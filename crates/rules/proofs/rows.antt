@@ -5,4 +5,5 @@ pub mod BenchRows
 pub mod LineRows
 pub mod OtherRows
 pub mod StateRows
+pub mod SlowingRows
 pub mod RangeRows

@@ -14,6 +14,7 @@ use Rattle.rules.specs.Claim.{leastPause, Demand3}
 use Rattle.rules.specs.Every20.{ClosedIsSound}
 use Rattle.rules.specs.LastMeasured.{LastMeasured}
 use Rattle.rules.specs.Lent.{altered}
+use Rattle.rules.specs.OverCurrent.{OverCurrentExactly}
 use Rattle.rules.specs.Refusals.{refusal}
 use Rattle.rules.specs.State.{State, anyFault}
 use Rattle.rules.specs.Step3Wave.{available}
@@ -50,6 +51,8 @@ pub record EveryList (begin : Begin) (calls : List Call) : Type 0 where
   pub waves : (k : ℕ) → k ≤ length calls → replyBefore begin calls k .wave ≡ before begin calls k .wave
   -- the currents that each reply shows are those of the last accepted measure, or 0
   pub lines-are : (k : ℕ) → k ≤ length calls → LastMeasured begin calls k (replyBefore begin calls k .lines)
+  -- fault 2 comes exactly with a call that finds the van over its bound for too long
+  pub over-current : OverCurrentExactly begin calls
   -- the controller keeps what the replay keeps, and holds the contactor and the closings that were last told; refusal 1 never names it
   pub states-are : (k : ℕ) → k ≤ length calls → lentAt begin calls k .state ≡ before begin calls k
   pub held : (k : ℕ) → k ≤ length calls → lentAt begin calls k .state .closed ≡ replyBefore begin calls k .closed

@@ -19,5 +19,6 @@ pub mod Claim
 pub mod Traces
 pub mod Every20
 pub mod LastMeasured
+pub mod OverCurrent
 pub mod EveryList
 pub mod RefusalsAre

@@ -6,7 +6,7 @@ use Rattle.units.specs.Range.{fromTo}
 use Rattle.units.specs.Wave.{driven, steadyLow, steadyHigh}
 use Rattle.pilot.specs.Bands.{bandA, bandD, bandE}
 use Rattle.duty.specs.DutyFor.{Sends, duty, refusal, dutyFor}
-use Rattle.rules.specs.State.{State, Moment, anyFault, empty, startedBy}
+use Rattle.rules.specs.State.{State, Moment, anyFault, empty, setTo, startedBy}
 
 -- a settled state that is one of A to E
 unfoldable pub isSettled : ℕ → Bool
@@ -42,9 +42,17 @@ waveOf faulted current settled ventilation =
 unfoldable pub waveFor : State → ℕ
 waveFor s = waveOf (anyFault (s .faults)) (available s) (s .settled) (s .settings .ventilation)
 
--- an over-run ends where the wave is not driven
-unfoldable pub overrunUnder : ℕ → Moment → Moment
-overrunUnder wave overrun = cond (driven wave) overrun empty
+-- a driven duty is lowered to another driven one: the wave as the call finds it, and the one of step 3 (document 02, c)
+unfoldable pub lowersDuty : ℕ → ℕ → Bool
+lowersDuty old wave = driven old && (driven wave && ltb wave old)
+
+-- a lowered duty restarts a running over-run (document 02, c)
+unfoldable pub restarts : ℕ → ℕ → Moment → Bool
+restarts old wave overrun = lowersDuty old wave && overrun .set
+
+-- an over-run: ends where the wave is not driven, restarts at the call's own time where the duty is lowered, else runs on
+unfoldable pub overrunUnder : ℕ → ℕ → ℕ → Moment → Moment
+overrunUnder time old wave overrun = cond (driven wave) (cond (restarts old wave overrun) (setTo time) overrun) empty
 
 -- a stop: starts where the contactor is closed and the wave high, ends where the wave is driven
 unfoldable pub stopUnder : ℕ → ℕ → Bool → Moment → Moment
@@ -64,7 +72,7 @@ stepWave time s =
       last = s .last;
       sound = s .sound;
       opening = s .opening;
-      overrun = overrunUnder (waveFor s) (s .overrun);
+      overrun = overrunUnder time (s .wave) (waveFor s) (s .overrun);
       stop = stopUnder time (waveFor s) (s .closed) (s .stop);
       previous = s .previous;
       lines = s .lines;

@@ -12,7 +12,7 @@ ghost use lib.Dec.{eqb};
 ghost use Rattle.units.specs.Wave.{steadyLow, steadyHigh};
 ghost use Rattle.duty.specs.Answers.{asSends};
 ghost use Rattle.duty.specs.DutyFor.{dutyFor};
-ghost use Rattle.rules.specs.Step3Wave.{isUAE, unventilatedD, noDuty, sent, waveOf, overrunUnder, stopUnder};
+ghost use Rattle.rules.specs.Step3Wave.{isUAE, unventilatedD, noDuty, sent, waveOf, lowersDuty, restarts, overrunUnder, stopUnder};
 ghost use Rattle.parts.specs.Views.{asMoment};
 
 // Settled U, A or E.
@@ -81,13 +81,34 @@ pub fn wave_for(faulted: bool, available: Milliamps, settled: u8, ventilation: b
     wave_by(faulted, high, duty)
 }
 
-// An over-run ends where the wave is not driven.
-pub fn overrun_under(wave: u32, overrun: Moment) -> Moment
-    ensures { λ r. ⌜ asMoment r ≡ overrunUnder wave (asMoment overrun) ⌝ }
+// A driven duty is lowered to another driven one: `old` is the wave as the call finds it.
+fn lowers_duty(old: u32, wave: u32) -> bool
+    ensures { λ r. ⌜ r ≡ lowersDuty old wave ⌝ }
+{
+    let was_driven = units::driven(old);
+    let driven = units::driven(wave);
+    let lower = wave < old;
+    conditions::all(was_driven, driven, lower)
+}
+
+// A lowered duty restarts a running over-run: the van has its 5 s to follow.
+fn restarts(old: u32, wave: u32, overrun: Moment) -> bool
+    ensures { λ r. ⌜ r ≡ restarts old wave (asMoment overrun) ⌝ }
+{
+    let lowers = lowers_duty(old, wave);
+    conditions::both(lowers, overrun.set)
+}
+
+// An over-run ends where the wave is not driven, and restarts at the call's own time where the duty is lowered.
+pub fn overrun_under(time: Millis, old: u32, wave: u32, overrun: Moment) -> Moment
+    ensures { λ r. ⌜ asMoment r ≡ overrunUnder (time .0) old wave (asMoment overrun) ⌝ }
 {
     let driven = units::driven(wave);
+    let again = restarts(old, wave, overrun);
+    let here = Moment::set_to(time);
     let none = Moment::empty();
-    moments::pick(driven, overrun, none)
+    let runs = moments::pick(again, here, overrun);
+    moments::pick(driven, runs, none)
 }
 
 fn is_high(wave: u32) -> bool

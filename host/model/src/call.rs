@@ -83,6 +83,8 @@ pub struct Outcome {
     pub closing: bool,
     /// Faults that this call latched, also those latched before.
     pub latched: [bool; 5],
+    /// Has step 3 restarted a running over-run (document 02, request c)?
+    pub restarted: bool,
     /// Step 5's conditions; all false in a refused call.
     pub conditions: Conditions,
 }
@@ -96,6 +98,7 @@ impl Outcome {
             opened: false,
             closing: false,
             latched: [false; 5],
+            restarted: false,
             conditions: Conditions::default(),
         }
     }
@@ -152,6 +155,7 @@ impl State {
                     opened: run.opened,
                     closing: run.closing,
                     latched: run.latched,
+                    restarted: run.restarted,
                     conditions: run.conditions,
                 };
                 (run.state, outcome)

@@ -1,10 +1,11 @@
 //! What the controller of a charging post should do, as plain Rust.
 //!
-//! It was made from document 01, the paper that states the rules, and requests a
-//! and b of document 02, by which pause 0 means 10,000 and a measure has a current
-//! for every line, without sight of the controller that it is held against, call
-//! by call. Its interface, readings 1, 3, 5 and 22 below and the first sentence of
-//! 18 were given. It is slow and obvious on purpose.
+//! It was made from document 01, the paper that states the rules, and requests a,
+//! b and c of document 02, by which pause 0 means 10,000, a measure has a current
+//! for every line and a lowered duty restarts a running over-run, without sight of
+//! the controller that it is held against, call by call. Its interface, readings 1,
+//! 3, 5 and 27 below and the first sentence of 18 were given. It is slow and
+//! obvious on purpose.
 //!
 //! | File | What it holds |
 //! |---|---|
@@ -64,10 +65,24 @@
 //! 19. Over-run is judged in a measure call alone, on that call's own lines. Kept
 //!     lines are not judged again when the wave changes or the contactor closes.
 //! 20. The old measure puts lines 2 and 3 to 0, whatever they were.
+//! 21. Step 3 lowers a duty if the wave commanded before the call and the one it
+//!     commands are both driven and the latter is less. A lower limit with the
+//!     same duty lowers nothing. Steady +12 V is no driven duty, though its
+//!     number is the greatest: a step from or to a steady wave restarts nothing.
+//! 22. A lowered duty restarts the over-run in a call of any kind, and with the
+//!     contactor open as well. (In a list only a limit call with the contactor
+//!     closed comes to it.)
+//! 23. Step 3 asks whether an over-run runs. One that a measure ended in step 1
+//!     is not restarted; one that it started there is, at the time it has. How
+//!     far over the van is, or was, is not asked.
+//! 24. The restart is step 3's. An opening in step 4 of the same call ends the
+//!     over-run, which counts as restarted all the same.
+//! 25. A restarted over-run began at its restart: fault 2 counts from there, and
+//!     the earlier start is not kept.
 //!
 //! Reply
-//! 21. Letter U, E or F gives digit 0, whatever the wave is.
-//! 22. The lines are in the reply to every call, as kept after it.
+//! 26. Letter U, E or F gives digit 0, whatever the wave is.
+//! 27. The lines are in the reply to every call, as kept after it.
 
 #![forbid(unsafe_code)]
 

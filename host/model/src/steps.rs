@@ -58,6 +58,8 @@ pub(crate) struct Run {
     /// Has this call forgotten the previous sample?
     forgot: bool,
     pub latched: [bool; 5],
+    /// Has this call restarted a running over-run?
+    pub restarted: bool,
     pub causes: [bool; 5],
     pub opened: bool,
     pub conditions: Conditions,
@@ -74,6 +76,7 @@ pub(crate) fn run(state: &State, time: u64, event: &Event, levels: Option<(i32, 
         partner: state.previous,
         forgot: false,
         latched: [false; 5],
+        restarted: false,
         causes: [false; 5],
         opened: false,
         conditions: Conditions::default(),
@@ -156,15 +159,27 @@ impl Run {
 
     /// Step 3: wave command, then the ends and starts that hang on it.
     fn step_3_wave(&mut self) {
+        let before = self.state.wave;
         self.state.wave = command(&self.state);
         if !driven(self.state.wave) {
             self.state.overrun = None;
+        }
+        if lowered(before, self.state.wave) {
+            self.restart();
         }
         if self.state.closed && self.state.wave == STEADY_HIGH {
             self.state.stop = self.state.stop.or(Some(self.time));
         }
         if driven(self.state.wave) {
             self.state.stop = None;
+        }
+    }
+
+    /// A running over-run starts again at this call's time (document 02, request c).
+    fn restart(&mut self) {
+        if self.state.overrun.is_some() {
+            self.state.overrun = Some(self.time);
+            self.restarted = true;
         }
     }
 
@@ -242,6 +257,11 @@ fn both(this: Option<Verdict>, previous: Option<Verdict>, is: fn(&Verdict) -> bo
         (Some(this), Some(previous)) => is(&this) && is(&previous),
         _ => false,
     }
+}
+
+/// Is a driven duty lowered to another driven one?
+fn lowered(before: u32, after: u32) -> bool {
+    driven(before) && driven(after) && after < before
 }
 
 /// Wave command of step 3.

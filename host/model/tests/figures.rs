@@ -3,99 +3,10 @@
 //! Begin's pause is 0 unless a test hangs on the pause; such a test names its own.
 //! Measures are old ones of one current; those of three are in `lines.rs`.
 
+mod common;
+
 use chuldariin_model::*;
-
-const MAX_TIME: u64 = 1_000_000_000_000;
-
-/// A window of two levels, half and half.
-fn window(high: i32, low: i32) -> Vec<i32> {
-    let mut readings = vec![high; 128];
-    readings.extend(vec![low; 128]);
-    readings
-}
-
-/// Seven readings on each spot, the spots 603 mV apart: none has eight supporters.
-fn unsupported() -> Vec<i32> {
-    (0..256).map(|n| -14_000 + 603 * (n / 7)).collect()
-}
-
-struct Post {
-    state: State,
-    outcome: Option<Outcome>,
-}
-
-impl Post {
-    fn begin(pause: u64) -> Post {
-        let (state, reply) = begin(&Begin {
-            time: 0,
-            rated: 32_000,
-            pause,
-            ventilation: false,
-        })
-        .unwrap();
-        assert_eq!(reply, Reply::of(&state, 0));
-        Post {
-            state,
-            outcome: None,
-        }
-    }
-
-    fn call(&mut self, time: u64, event: Event) -> Reply {
-        let before = self.state;
-        let (state, outcome) = self.state.call(time, &event);
-        if outcome.reply.refusal != 0 {
-            assert_eq!(state, before);
-            assert_eq!(outcome.reply, Reply::of(&before, outcome.reply.refusal));
-        }
-        self.state = state;
-        self.outcome = Some(outcome);
-        outcome.reply
-    }
-
-    fn sample(&mut self, time: u64, high: i32, low: i32) -> Reply {
-        self.call(time, Event::Sample(&window(high, low)))
-    }
-
-    /// C samples every 10 from one time to another, both included.
-    fn ready(&mut self, from: u64, to: u64) -> Reply {
-        let mut reply = Reply::alone(99);
-        for time in (from..=to).step_by(10) {
-            reply = self.sample(time, 6_000, -12_000);
-        }
-        reply
-    }
-
-    /// The bench list up to the first closing at 40.
-    fn closed() -> Post {
-        Post::closed_with(0)
-    }
-
-    /// The same with a pause of its own.
-    fn closed_with(pause: u64) -> Post {
-        let mut post = Post::begin(pause);
-        post.call(0, Event::Limit(32_000));
-        assert_eq!(post.sample(10, 9_000, 9_000).letter, b'U');
-        let reply = post.sample(20, 9_000, 9_000);
-        assert_eq!((reply.letter, reply.digit, reply.wave), (b'B', 2, 533));
-        assert!(!post.sample(30, 6_000, -12_000).closed);
-        let reply = post.sample(40, 6_000, -12_000);
-        assert_eq!((reply.letter, reply.digit, reply.wave), (b'C', 2, 533));
-        assert_eq!((reply.closed, reply.closings), (true, 1));
-        assert!(post.outcome.unwrap().closing && post.outcome.unwrap().conditions.all());
-        post
-    }
-
-    /// The bench list up to the opening at 60.
-    fn opened(pause: u64) -> Post {
-        let mut post = Post::closed_with(pause);
-        assert!(post.sample(50, 9_000, -12_000).closed);
-        let reply = post.sample(60, 9_000, -12_000);
-        assert_eq!((reply.closed, reply.letter, reply.digit), (false, b'B', 2));
-        let causes = post.outcome.unwrap().causes;
-        assert_eq!(causes, [true, false, false, false, false]);
-        post
-    }
-}
+use common::{unsupported, Post, MAX_TIME};
 
 // ---- Bench figures ----
 

@@ -6,13 +6,7 @@
 mod common;
 
 use chuldariin_model::*;
-use common::{charging, window};
-
-const ALLOWED: u32 = 35_178;
-const TOO_MUCH: u32 = 35_179;
-const LARGEST: u32 = 200_000;
-const NO_FAULT: [bool; 5] = [false; 5];
-const OVER_CURRENT: [bool; 5] = [false, true, false, false, false];
+use common::{charging, window, ALLOWED, LARGEST, NO_FAULT, OVER_CURRENT, TOO_MUCH};
 
 /// Three currents in each of their orders.
 fn orders([a, b, c]: [u32; 3]) -> [[u32; 3]; 6] {

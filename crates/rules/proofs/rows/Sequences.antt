@@ -27,7 +27,7 @@ use Rattle.rules.specs.Refusals.{timeRefusal, kindAllowed, limitAllowed,
 use Rattle.rules.specs.State.{anyFault}
 use Rattle.rules.specs.Step1Event.{settledBy, soundBy, limitBy, linesBy, withKind, faultsBy, currentOf, announced, isOver, overrunAt, overrunBy}
 use Rattle.rules.specs.Step2Latches.{ranFor, overCurrent, unsettles, latched}
-use Rattle.rules.specs.Step3Wave.{isSettled, isUAE, unventilatedD, available, noDuty, sent, waveFor, overrunUnder, stopUnder}
+use Rattle.rules.specs.Step3Wave.{isSettled, isUAE, unventilatedD, available, noDuty, sent, waveFor, lowersDuty, restarts, overrunUnder, stopUnder}
 use Rattle.rules.specs.Step4Opening.{cause1, cause2, cause3, cause4, cause5, cause, opens}
 use Rattle.rules.specs.Step5Closing.{pauseOver, closes, closingsBy}
 use Rattle.rules.proofs.rows.Squares.{squareWindow, square-levels}
@@ -201,7 +201,7 @@ tells-by sequence lent right rights comes answers =
 
 -- a call computed on levels: what unfolds this unfolds every definition that a call goes through
 unfoldable pub computed : Lent → List LevelCall → Lent
-unfolding within strictlyBetween fromTo driven bandOf ready isBCD sound proven diodeBad verdictOf atMost allowed orRefusal dutyFor orElse greatestBelow readingOf next ratedAllowed pauseAllowed pauseFor fresh waveAllowed storedAllowed timesAllowed inRange altered lentRefusal windowVerdict verdict paired sameBand inOneBand bothProven bothDiodeBad bothUnsound timeRefusal kindAllowed limitAllowed largest lineAllowed linesAllowed argumentRefusal letter digit faultShown anyFault settledBy soundBy limitBy linesBy withKind faultsBy currentOf announced isOver overrunAt overrunBy ranFor overCurrent unsettles latched isSettled isUAE unventilatedD available noDuty sent waveFor overrunUnder stopUnder cause1 cause2 cause3 cause4 cause5 cause opens pauseOver closes closingsBy
+unfolding within strictlyBetween fromTo driven bandOf ready isBCD sound proven diodeBad verdictOf atMost allowed orRefusal dutyFor orElse greatestBelow readingOf next ratedAllowed pauseAllowed pauseFor fresh waveAllowed storedAllowed timesAllowed inRange altered lentRefusal windowVerdict verdict paired sameBand inOneBand bothProven bothDiodeBad bothUnsound timeRefusal kindAllowed limitAllowed largest lineAllowed linesAllowed argumentRefusal letter digit faultShown anyFault settledBy soundBy limitBy linesBy withKind faultsBy currentOf announced isOver overrunAt overrunBy ranFor overCurrent unsettles latched isSettled isUAE unventilatedD available noDuty sent waveFor lowersDuty restarts overrunUnder stopUnder cause1 cause2 cause3 cause4 cause5 cause opens pauseOver closes closingsBy
 computed lent calls = lentOn lent calls
 
 lent-append : (lent : Lent) (first rest : List LevelCall) → lentOn lent (first ++ rest) ≡ lentOn (lentOn lent first) rest

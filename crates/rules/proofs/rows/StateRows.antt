@@ -46,19 +46,19 @@ FaultsRow =
     lentAfter (at80A 0) (map callOf faultCalls) .state .faults
     ≡ record { diode = false; overcurrent = false; residual = true; welded = true; temperature = true }
 
--- a controller that no list leads to, in range: wave, contactor, faults, over-run and stop as given
-abbrev pub unreachedByWave : ℕ → Bool → Faults → Moment → Moment → Lent
-unreachedByWave wave closed faults overrun stop =
+-- a controller that no list leads to, in range: limit, wave, contactor, faults, over-run, stop and the time of the last call as given
+abbrev pub unreachedBy : ℕ → ℕ → Bool → Faults → Moment → Moment → ℕ → Lent
+unreachedBy limit wave closed faults overrun stop last =
     record {
       state = record {
         settings = record { rated = 80000; pause = 3000; ventilation = false };
-        limit = 80000;
+        limit = limit;
         wave = wave;
         closed = closed;
         settled = bandC;
         faults = faults;
-        last = 100;
-        sound = setTo 100;
+        last = last;
+        sound = setTo last;
         opening = empty;
         overrun = overrun;
         stop = stop;
@@ -67,6 +67,10 @@ unreachedByWave wave closed faults overrun stop =
       };
       closings = 7;
     }
+
+-- the same with a limit of 80 A, the last call at 100
+abbrev pub unreachedByWave : ℕ → Bool → Faults → Moment → Moment → Lent
+unreachedByWave wave closed faults overrun stop = unreachedBy 80000 wave closed faults overrun stop 100
 
 -- a measure is judged by the wave as the call finds it: a steady one starts no over-run, though step 3 then drives it
 abbrev pub SteadyRow : Type 0

@@ -6,4 +6,4 @@ use Rattle.waves.proofs.overrun_under.Tie as tie
 pub overrun-under-spec : {M : Type 1} → statement M
 unfolding overrunUnder
 overrun-under-spec =
-    tie.close (tie.spec (λ c κs. tt) (λ c κs. tt) (λ c κs. tt) (λ c. cc))
+    tie.close (tie.spec (λ c κs. tt) (λ c κs. tt) (λ c κs. tt) (λ c κs. tt) (λ c κs. tt) (λ c κs. tt) (λ c. cc))

@@ -1,0 +1,65 @@
+-- When fault 2 comes in a list (document 01, steps 1 and 2; document 02, c): exactly with a call that finds the van over its bound for 5,000 or longer,
+-- with 5,000 or longer to follow each lowered duty. Proved in proofs/OverCurrent.antt.
+use mathlib.Core.Path.{_≡_}
+use mathlib.Core.Bool.{true, false}
+use mathlib.Core.List.{List}
+use mathlib.Core.Logic.{_↔_}
+use Prim.Native.Nat.{ℕ, suc, _+_, _*_, _≤_, _<_}
+use lib.ListN.{length}
+use Rattle.units.specs.Wave.{driven}
+use Rattle.rules.specs.Begin.{Begin}
+use Rattle.rules.specs.Calls.{Call}
+use Rattle.rules.specs.LastMeasured.{Measures}
+use Rattle.rules.specs.Lines.{Lines, largest}
+use Rattle.rules.specs.Replay.{isAccepted}
+use Rattle.rules.specs.Step1Event.{announced}
+use Rattle.rules.specs.Traces.{before, callAt}
+
+module _ (begin : Begin) (calls : List Call) where
+  -- call k latches fault 2: it is not latched before the call, and is after it
+  pub record LatchesTwo (k : ℕ) : Type 0 where
+    pub below : k < length calls
+    pub not-yet : before begin calls k .faults .overcurrent ≡ false
+    pub latched : before begin calls (suc k) .faults .overcurrent ≡ true
+
+  -- call k is a measure that is judged: accepted, and made with the contactor closed and the wave driven
+  pub record Judged (k : ℕ) (lines : Lines) : Type 0 where
+    pub measures : Measures begin calls k lines
+    pub closed : before begin calls k .closed ≡ true
+    pub driven-wave : driven (before begin calls k .wave) ≡ true
+
+  -- it is over its bound: its largest current is more than a tenth above what the wave announces
+  abbrev pub Over : ℕ → Type 0
+  Over k = (lines : Lines) × Judged k lines × (11 * announced (before begin calls k .wave) < 10 * largest lines)
+
+  -- it is within its bound
+  abbrev pub Within : ℕ → Type 0
+  Within k = (lines : Lines) × Judged k lines × (10 * largest lines ≤ 11 * announced (before begin calls k .wave))
+
+  -- call k is accepted and lowers a driven duty to another driven one
+  pub record Lowers (k : ℕ) : Type 0 where
+    pub below : k < length calls
+    pub accepted : isAccepted (before begin calls k) (callAt begin calls k) ≡ true
+    pub was-driven : driven (before begin calls k .wave) ≡ true
+    pub still-driven : driven (before begin calls (suc k) .wave) ≡ true
+    pub lower : before begin calls (suc k) .wave < before begin calls k .wave
+
+  -- call k finds the van over its bound for too long
+  pub record OverTooLong (k : ℕ) : Type 0 where
+    pub below : k < length calls
+    pub accepted : isAccepted (before begin calls k) (callAt begin calls k) ≡ true
+    -- a measure at least 5,000 before it was over its bound, and since then none was within its bound
+    pub start : ℕ
+    pub earlier : start < k
+    pub over : Over start
+    pub long-ago : callAt begin calls start .time + 5000 ≤ callAt begin calls k .time
+    pub none-within : (i : ℕ) → start < i → i ≤ k → Within i → ⊥
+    -- since then the contactor has been closed, and the wave driven
+    pub closed-since : (i : ℕ) → start < i → i ≤ k → before begin calls i .closed ≡ true
+    pub driven-since : (i : ℕ) → start < i → i ≤ k → driven (before begin calls i .wave) ≡ true
+    -- no call lowered the duty less than 5,000 before it
+    pub none-lowered : (i : ℕ) → i ≤ k → callAt begin calls k .time < callAt begin calls i .time + 5000 → Lowers i → ⊥
+
+  -- fault 2 comes with that call and with no other
+  abbrev pub OverCurrentExactly : Type 0
+  OverCurrentExactly = (k : ℕ) → LatchesTwo k ↔ OverTooLong k
