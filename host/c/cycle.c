@@ -105,6 +105,32 @@ static void over_current_and_clear(void) {
     EXPECT(says(chuldariin_clear(&c, 5070), 'U', 0, 1000, false, 0, 1));
 }
 
+/* An over-run from 50 on, and this limit at 4,999 of it: how long after that limit fault 2 comes. */
+static uint64_t fault_after(uint32_t before, uint32_t current, uint32_t after) {
+    controller c = charging();
+    EXPECT(chuldariin_limit(&c, 40, before).closed);
+    EXPECT(chuldariin_measure(&c, 50, current).closed && c.overrun.set);
+    for (uint64_t t = 60; t < 5049; t += 10)
+        EXPECT(sample(&c, t, 6000, -12000).closed);
+    reply r = chuldariin_limit(&c, 5049, after);
+    uint64_t t = 5049;
+    while (r.fault == 0 && t < 20000) {
+        t += 1;
+        r = t % 10 == 0 ? sample(&c, t, 6000, -12000) : chuldariin_tick(&c, t);
+    }
+    EXPECT(r.fault == CHULDARIIN_FAULT_OVERCURRENT && !r.closed);
+    return t - 5049;
+}
+
+/* A lowered duty restarts the over-run; a raised one, and one that stays, leave it running. */
+static void still_slowing_down(void) {
+    EXPECT(fault_after(32000, 35179, 16000) == 5000);
+    EXPECT(fault_after(32000, 35179, 31979) == 5000);
+    EXPECT(fault_after(32000, 35179, 31980) == 1);
+    EXPECT(fault_after(32000, 35179, 32000) == 1);
+    EXPECT(fault_after(16000, 17557, 32000) == 1);
+}
+
 static bool shows(struct chuldariin_lines l, uint32_t line1, uint32_t line2, uint32_t line3) {
     return l.line1 == line1 && l.line2 == line2 && l.line3 == line3;
 }
@@ -203,6 +229,7 @@ int main(void) {
     opens_after_three_seconds();
     over_current_and_clear();
     over_current_on_each_line();
+    still_slowing_down();
     lines_shown();
     each_refusal();
     before_any_begin();

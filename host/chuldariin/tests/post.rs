@@ -106,6 +106,25 @@ fn a_fault_opens_and_clear_begins_again_from_u() {
 }
 
 #[test]
+fn a_lowered_limit_restarts_an_over_run() {
+    let mut post = charging();
+    post.measure(Millis(50), Milliamps(36_000))
+        .expect("in range");
+    let start = |post: &Post| post.controller().overrun.time;
+    assert_eq!(start(&post), 50);
+    for (time, limit, began) in [
+        (60, 32_000, 50),
+        (70, 16_000, 70),
+        (80, 16_000, 70),
+        (90, 32_000, 70),
+    ] {
+        post.limit(Millis(time), Milliamps(limit))
+            .expect("in range");
+        assert_eq!(start(&post), began, "{limit} at {time}");
+    }
+}
+
+#[test]
 fn the_last_measure_is_shown_line_by_line() {
     let mut post = charging();
     let lines = [1_000, 36_000, 2_000].map(Milliamps);

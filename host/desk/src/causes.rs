@@ -1,7 +1,7 @@
 //! What happened in a call, and why: closings, openings with their causes, latches, over-runs and stops.
 
 use crate::turn::{Sample, Turn};
-use crate::words::{faults, grouped, largest, letter, refusal, why_steady, FAULTS, NUMERALS};
+use crate::words::{duty, faults, grouped, largest, letter, refusal, why_steady, FAULTS, NUMERALS};
 use chuldariin_log::Call;
 use chuldariin_model::{reading, Reading, State, OVERRUN_AGE, STOP_AGE};
 
@@ -73,7 +73,7 @@ fn latched(turn: &Turn, notes: &mut Vec<Note>) {
         }
         let why = match (place, turn.sample, turn.previous) {
             (0, Some(this), Ok(previous)) => both_off(&previous, &this, low_off),
-            (1, _, _) => format!("the over-run began {}", ago(turn.before.overrun, turn)),
+            (1, _, _) => overrun_so_far(turn),
             _ if turn.before.faults[place] => "told again".to_string(),
             _ => "told".to_string(),
         };
@@ -193,21 +193,68 @@ pub fn closed(turn: &Turn) -> String {
     format!("CLOSED: proven in {band} at {samples}; {rest}")
 }
 
-/// An over-run that starts, or that ends without a fault.
+/// An over-run that starts, ends without a fault, or runs on under another duty.
 fn overrun(turn: &Turn, notes: &mut Vec<Note>) {
-    let words = match (turn.before.overrun, turn.after.overrun, turn.call) {
+    let (was, is) = (turn.before.overrun, turn.after.overrun);
+    let words = match (was, is, turn.call) {
         (None, Some(start), call) => format!(
-            "over-run starts: {} is above {}; fault 2 at {} unless it ends",
+            "over-run starts: {} is above {}; {}",
             judged_current(call, &turn.after),
             allowed(&turn.before),
-            start + OVERRUN_AGE
+            fault_2_at(start)
         ),
-        (Some(start), None, _) if !turn.outcome.latched[1] => {
-            format!("over-run ends, {} ms old", grouped(turn.after.last - start))
+        (Some(old), Some(start), _) if turn.before.wave != turn.after.wave => {
+            another_duty(turn, old, start)
         }
+        (Some(start), None, _) if !turn.outcome.latched[1] => ended(turn, start),
         _ => return,
     };
     notes.push(note(Kind::Event, words));
+}
+
+/// A lowered duty restarts an over-run, and a raised one leaves it running.
+fn another_duty(turn: &Turn, old: u64, start: u64) -> String {
+    let (what, way) = match turn.outcome.restarted {
+        true => ("restarts", "lowered"),
+        false => ("runs on", "raised"),
+    };
+    format!(
+        "over-run {what}, {} ms old: the duty is {way} from {} to {}; {}",
+        grouped(turn.after.last - old),
+        duty(turn.before.wave),
+        duty(turn.after.wave),
+        fault_2_at(start)
+    )
+}
+
+fn ended(turn: &Turn, start: u64) -> String {
+    let age = grouped(turn.after.last - start);
+    match restarted(turn) {
+        None => format!("over-run ends, {age} ms old"),
+        Some(first) => format!("over-run ends, {age} ms after its restart; it began at {first}"),
+    }
+}
+
+/// When fault 2 comes to an over-run of this start.
+pub fn fault_2_at(start: u64) -> String {
+    format!("fault 2 at {} unless it ends", start + OVERRUN_AGE)
+}
+
+/// When the over-run that the call found first began, if it has restarted since.
+fn restarted(turn: &Turn) -> Option<u64> {
+    turn.over_since
+        .filter(|_| turn.over_since != turn.before.overrun)
+}
+
+/// How old an over-run is that latches fault 2.
+fn overrun_so_far(turn: &Turn) -> String {
+    let ago = ago(turn.before.overrun, turn);
+    match restarted(turn) {
+        None => format!("the over-run began {ago}"),
+        Some(first) => {
+            format!("the over-run restarted {ago}, when the duty was lowered; it began at {first}")
+        }
+    }
 }
 
 /// What was judged of a measure: its current, or the largest of three with its line.

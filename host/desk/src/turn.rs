@@ -49,9 +49,17 @@ pub struct Turn<'a> {
     pub sample: Option<Sample>,
     /// The previous one, as the call found it; begin looks for none.
     pub previous: Result<Sample, Forgotten>,
+    /// When the running over-run first began, as the call found it: a restart does not move this.
+    pub over_since: Option<u64>,
 }
 
 impl Turn<'_> {
+    /// When the over-run first began that runs after the call.
+    pub fn still_over_since(&self) -> Option<u64> {
+        let start = self.after.overrun?;
+        self.over_since.or(Some(start))
+    }
+
     pub fn accepted(&self) -> bool {
         self.reply.refusal == 0
     }
@@ -94,6 +102,7 @@ pub struct Post {
     state: State,
     begun: bool,
     previous: Result<Sample, Forgotten>,
+    over_since: Option<u64>,
     room: Room,
 }
 
@@ -105,6 +114,7 @@ impl Default for Post {
             lent,
             begun: false,
             previous: Err(Forgotten::Never),
+            over_since: None,
             room: Room::default(),
         }
     }
@@ -136,7 +146,9 @@ impl Post {
                 Call::Begin(_) => Err(Forgotten::Never),
                 _ => self.previous,
             },
+            over_since: self.over_since,
         };
+        self.over_since = turn.still_over_since();
         self.begun |= turn.begins();
         self.keep(&turn);
         Ok(turn)

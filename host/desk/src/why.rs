@@ -1,6 +1,6 @@
 //! The command `why`: which closing conditions hold at a time, and which do not.
 
-use crate::causes::{closed, notes, Kind};
+use crate::causes::{closed, fault_2_at, notes, Kind};
 use crate::conditions::{conditions, waits_for};
 use crate::input::Log;
 use crate::paint::{Colour, Paint};
@@ -98,10 +98,27 @@ pub fn why(log: &Log, at: At, paint: Paint, out: &mut impl Write) -> Result<(), 
             let (line, time) = (closing.line, closing.after.last);
             writeln!(out, "The contactor is closed since line {line}, at {time}.")?;
             writeln!(out, "{}", closed(closing))?;
+            running(&last, out)?;
         }
         _ => open(at, &last, found.opening.as_ref(), paint, out)?,
     }
     Ok(())
+}
+
+/// An over-run that runs with the contactor closed, and when fault 2 comes.
+fn running(last: &Turn, out: &mut impl Write) -> io::Result<()> {
+    let (Some(start), Some(first)) = (last.after.overrun, last.still_over_since()) else {
+        return Ok(());
+    };
+    let restarted = match start == first {
+        true => String::new(),
+        false => format!(", restarted at {start}, when the duty was lowered"),
+    };
+    writeln!(
+        out,
+        "An over-run runs since {first}{restarted}: {}.",
+        fault_2_at(start)
+    )
 }
 
 /// The last accepted call, what was refused after it, and what was told.

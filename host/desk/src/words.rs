@@ -71,11 +71,14 @@ pub fn wave(wave: u32) -> String {
     match (wave, reading(wave)) {
         (0, _) => "-12 V".to_string(),
         (1_000, _) => "+12 V".to_string(),
-        (_, Ok(Reading::Current(current))) => {
-            format!("{}.{} % = {}", wave / 10, wave % 10, amps(current.0))
-        }
-        _ => format!("{}.{} %", wave / 10, wave % 10),
+        (_, Ok(Reading::Current(current))) => format!("{} = {}", duty(wave), amps(current.0)),
+        _ => duty(wave),
     }
+}
+
+/// A duty in percent.
+pub fn duty(wave: u32) -> String {
+    format!("{}.{} %", wave / 10, wave % 10)
 }
 
 pub fn letter(band: Option<Band>) -> &'static str {

@@ -45,6 +45,26 @@ fn rare_calls() {
     assert!(line(&answer, "6 ").ends_with(note), "{answer}");
 }
 
+/// What a duty that is lowered, raised or told again makes of an over-run.
+#[test]
+fn an_over_run_under_another_duty() {
+    for (calls, start, note) in [
+        ("limit 60 16000\n", "8 ", "over-run restarts, 10 ms old: the duty is lowered from 53.3 % to 26.6 %; fault 2 at 5060 unless it ends"),
+        ("limit 60 32000\n", "8 ", "  1"),
+        ("limit 60 31980\n", "8 ", "  1"),
+        ("limit 60 16000\nlimit 70 10000\n", "9 ", "over-run restarts, 10 ms old: the duty is lowered from 26.6 % to 16.6 %; fault 2 at 5070 unless it ends"),
+        ("limit 60 16000\nlimit 70 20000\n", "9 ", "over-run runs on, 10 ms old: the duty is raised from 26.6 % to 33.3 %; fault 2 at 5060 unless it ends"),
+        ("limit 60 16000\nmeasure 70 0\n", "9 ", "over-run ends, 10 ms after its restart; it began at 50"),
+        ("measure 60 0\nmeasure 70 40000\nlimit 80 16000\nlimit 90 0\n", "11 ", "over-run ends, 10 ms after its restart; it began at 70; stop starts: limit 0 mA is below 6,000; opens at 3090 unless a wave is driven by then"),
+        ("limit 60 16000\ntick 5060\n", "9 ", "fault 2 (over-current): the over-run restarted 5,000 ms ago, at 60, when the duty was lowered; it began at 50"),
+        ("measure 60 0\nlimit 70 16000\n", "9 ", "  1"),
+    ] {
+        let answer = replayed(&format!("{CHARGE}measure 50 35179\n{calls}"));
+        let row = line(&answer, start);
+        assert!(row.ends_with(note), "{row}");
+    }
+}
+
 /// The currents of a reply have a column if a measure has one for each line.
 #[test]
 fn a_column_for_three_lines() {

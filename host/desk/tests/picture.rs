@@ -84,6 +84,52 @@ fn bands_and_strips() {
     }
 }
 
+/// The parts of the over-run's strip, and the lines where it restarts.
+#[test]
+fn an_over_run_and_its_restart() {
+    let (charge, _) = CHARGE.split_at(CHARGE.find("limit 500").expect("a later limit"));
+    let over = "measure 50 20000\nlimit 60 10000\nlimit 70 6000\nmeasure 80 0\ntick 100\n";
+    let text = format!("{charge}{over}");
+    for (part, wanted, lines) in [
+        (
+            WHOLE,
+            &[
+                "over-run: fault 2 at 5050",
+                "restarted at 60: fault 2 at 5060",
+                "restarted at 70: fault 2 at 5070",
+            ][..],
+            2,
+        ),
+        (
+            (65, 75),
+            &[
+                "restarted at 60: fault 2 at 5060",
+                "restarted at 70: fault 2 at 5070",
+            ][..],
+            1,
+        ),
+        ((85, 100), &[][..], 0),
+    ] {
+        let svg = picture(&text, part);
+        let drawn: Vec<&str> = svg
+            .lines()
+            .filter(|line| line.contains("y=\"600.0\"") && line.contains("<title>"))
+            .collect();
+        assert_eq!(drawn.len(), wanted.len(), "{drawn:?}");
+        for (drawn, words) in drawn.iter().zip(wanted) {
+            assert!(
+                drawn.contains(&format!("<title>{words} unless it ends</title>")),
+                "{drawn}"
+            );
+        }
+        let restarts = svg
+            .lines()
+            .filter(|line| line.contains("y1=\"600.0\""))
+            .count();
+        assert_eq!(restarts, lines);
+    }
+}
+
 #[test]
 fn samples_far_apart_are_not_joined() {
     let text = "begin 0 32000 0 no\nsample 100 9000 9000\nsample 180 9000 9000\nsample 261 9000 9000\nbegin 300 32000 0 no\nsample 310 9000 9000\n";
@@ -124,7 +170,7 @@ fn a_clock_that_starts_anew_runs_on() {
     // The fault is told 600 ms after the start, of 700.
     let x = 92.0 + 1072.0 * 600.0 / 700.0;
     assert!(
-        svg.contains(&format!("<rect x=\"{x:.2}\" y=\"600.0\"")),
+        svg.contains(&format!("<rect x=\"{x:.2}\" y=\"624.0\"")),
         "{svg}"
     );
 }

@@ -38,6 +38,22 @@ fn after_begin() {
     waits(&answer, "a limit of 6,000 mA or more (it is 0), a settled state (it is U) and two proven samples in a row in one band");
 }
 
+/// A closed contactor, and when fault 2 would open it.
+#[test]
+fn an_over_run_that_runs() {
+    for (calls, words) in [
+        ("", "CLOSED: proven in C at 30 and 40; not opened since begin"),
+        ("measure 50 36000\n", "An over-run runs since 50: fault 2 at 5050 unless it ends."),
+        (
+            "measure 50 36000\nlimit 60 16000\n",
+            "An over-run runs since 50, restarted at 60, when the duty was lowered: fault 2 at 5060 unless it ends.",
+        ),
+    ] {
+        let answer = why(&format!("{CHARGE}{calls}"), "60");
+        assert_eq!(answer.lines().last(), Some(words));
+    }
+}
+
 #[test]
 fn a_wave_that_is_not_driven() {
     for (calls, steady, wanted) in [

@@ -214,7 +214,51 @@ pub fn over_run(author: &mut Author) -> Played {
     finish(author, start + 5_001)
 }
 
+/// An over-run under a duty that the depot changes, once or twice, and then to its 5,000 ms, mostly.
+pub fn slow_down(author: &mut Author) -> Played {
+    close(author)?;
+    let (time, most) = (author.soon(), author.allowance());
+    author.measure(time, most + 1)?;
+    let age = author.dice.pick(&[4_999, 4_999, 5_000, 20, 2_500]);
+    if let Some(start) = author.state().overrun {
+        author.hold_until(start + age, Band::C)?;
+        author.change_duty(start + age)?;
+    }
+    if author.dice.one_in(2) {
+        let time = author.soon();
+        author.change_duty(time)?;
+    }
+    let Some(start) = author.state().overrun else {
+        return Ok(());
+    };
+    author.hold_until(start + 4_999, Band::C)?;
+    finish(author, start + 4_999)?;
+    finish(author, start + 5_000)
+}
+
 impl Author {
+    /// A limit that lowers the duty, raises it or leaves it, if the time has not passed.
+    fn change_duty(&mut self, time: u64) -> Played {
+        let state = self.state();
+        if time < state.last {
+            return Ok(());
+        }
+        let told = match reading(state.wave) {
+            Ok(Reading::Current(announced)) => announced,
+            _ => 6_000,
+        };
+        let limit = match self.dice.between(0, 7) {
+            0 => state.limit,
+            1 => told,
+            2 => told.saturating_add(250).min(80_000),
+            3 => 80_000,
+            4 => self.dice.pick(&GOOD_LIMITS),
+            5 => (told / 2).max(6_000),
+            _ => (told - 1).max(6_000),
+        };
+        self.say(Call::Limit(time, limit))
+    }
+
     /// The greatest current that starts no over-run under the present wave.
     pub fn allowance(&self) -> u32 {
         match reading(self.state().wave) {

@@ -20,7 +20,11 @@ pub const STYLES: [Style; 8] = [
         1_200,
         &[unsound, no_band, sway, low_ends, late_d, flicker, leave],
     ),
-    ("ages", 500, &[starve, over_run, stop, stop_unseen, close]),
+    (
+        "ages",
+        600,
+        &[starve, over_run, slow_down, stop, stop_unseen, close],
+    ),
     (
         "faults",
         1_000,

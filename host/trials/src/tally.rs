@@ -3,7 +3,7 @@
 use crate::pair::Seen;
 use chuldariin_log::{Call, Room};
 use chuldariin_model::{
-    begin, driven, reading, refusal_of_call, Begin, Conditions, Event, Reading, State,
+    begin, driven, duty_for, reading, refusal_of_call, Begin, Conditions, Event, Reading, State,
 };
 use std::collections::BTreeMap;
 
@@ -69,23 +69,44 @@ pub const MOST_ON: [&str; 3] = ["200,000 on 1", "200,000 on 2", "200,000 on 3"];
 pub const ABOVE_ON: [&str; 3] = ["200,001 on 1", "200,001 on 2", "200,001 on 3"];
 pub const STARTS_ON: [&str; 3] = ["over-run by 1", "over-run by 2", "over-run by 3"];
 
+/// What a list can make of the duty while an over-run runs (document 02, c).
+pub const RESTARTS: [&str; 10] = [
+    "restarts",
+    "lowered at 4,999",
+    "lowered at 5,000, latches",
+    "lowered again",
+    "lowered, none runs",
+    "raised, runs on",
+    "same limit, runs on",
+    "lower limit, same duty, runs on",
+    "4,999 after a restart, runs on",
+    "5,000 after a restart, latches",
+];
+
+/// What only an altered controller can.
+pub const ALTERED_RESTARTS: [&str; 3] = ["open", "without a limit call", "from steady, runs on"];
+
 /// Counts by group and name.
 #[derive(Clone, Debug, Default)]
-pub struct Tally(BTreeMap<(&'static str, &'static str), u64>);
+pub struct Tally {
+    counts: BTreeMap<(&'static str, &'static str), u64>,
+    /// When an over-run last restarted.
+    restart: Option<u64>,
+}
 
 impl Tally {
     pub fn count(&mut self, group: &'static str, name: &'static str) {
-        *self.0.entry((group, name)).or_insert(0) += 1;
+        *self.counts.entry((group, name)).or_insert(0) += 1;
     }
 
     pub fn of(&self, group: &'static str, name: &'static str) -> u64 {
-        self.0.get(&(group, name)).copied().unwrap_or(0)
+        self.counts.get(&(group, name)).copied().unwrap_or(0)
     }
 
     /// Adds the counts of another tally.
     pub fn add(&mut self, other: &Tally) {
-        for (key, count) in &other.0 {
-            *self.0.entry(*key).or_insert(0) += count;
+        for (key, count) in &other.counts {
+            *self.counts.entry(*key).or_insert(0) += count;
         }
     }
 
@@ -106,6 +127,7 @@ impl Tally {
         self.count("accepted", seen.call.word());
         self.see_contactor(seen);
         self.see_ages(seen);
+        self.see_duty(seen);
         self.see_conditions(&seen.outcome.conditions);
         self.see_measure(seen);
         if let Call::Sample(_, window) = seen.call {
@@ -222,6 +244,53 @@ impl Tally {
         self.see_pause(before, age(before.opening), &outcome.conditions);
     }
 
+    /// What a duty that is lowered, raised or told again does to an over-run.
+    fn see_duty(&mut self, seen: &Seen) {
+        let (before, after) = (&seen.before, &seen.after);
+        if seen.outcome.restarted {
+            self.see_restart(seen);
+        } else if driven(before.wave) && after.wave < before.wave && driven(after.wave) {
+            self.count("restart", "lowered, none runs");
+        }
+        if let Some(name) = left_running(seen) {
+            self.count("restart", name);
+        }
+        if seen.outcome.latched[1] && lowers_at_5000(seen) {
+            self.count("restart", "lowered at 5,000, latches");
+        }
+        let start = before.overrun.filter(|_| before.overrun == self.restart);
+        match start.map(|start| seen.call.time() - start) {
+            Some(4_999) if after.overrun == start => {
+                self.count("restart", "4,999 after a restart, runs on")
+            }
+            Some(5_000) if seen.outcome.latched[1] => {
+                self.count("restart", "5,000 after a restart, latches")
+            }
+            _ => {}
+        }
+        if seen.outcome.restarted {
+            self.restart = after.overrun;
+        }
+    }
+
+    /// A restart: how old the over-run was, and what is unlike the usual one.
+    fn see_restart(&mut self, seen: &Seen) {
+        self.count("restart", "restarts");
+        let start = seen.before.overrun;
+        if start.map(|start| seen.call.time() - start) == Some(4_999) {
+            self.count("restart", "lowered at 4,999");
+        }
+        if start.is_some() && start == self.restart {
+            self.count("restart", "lowered again");
+        }
+        if !seen.before.closed {
+            self.count("restart", "open");
+        }
+        if !matches!(seen.call, Call::Limit(..)) {
+            self.count("restart", "without a limit call");
+        }
+    }
+
     fn see_pause(&mut self, before: &State, age: Option<u64>, conditions: &Conditions) {
         let due = Conditions {
             pause_over: true,
@@ -290,7 +359,7 @@ impl Tally {
     pub fn table(&self) -> String {
         let mut text = String::new();
         let mut present = "";
-        for ((group, name), count) in &self.0 {
+        for ((group, name), count) in &self.counts {
             if *group != present {
                 text.push_str(&format!("\n{group:>14} |"));
                 present = group;
@@ -300,6 +369,31 @@ impl Tally {
         text.push('\n');
         text
     }
+}
+
+/// Why a call whose duty is not lowered could have been taken for one that restarts, and was not.
+fn left_running(seen: &Seen) -> Option<&'static str> {
+    let (before, after) = (&seen.before, &seen.after);
+    if before.overrun.is_none() || after.overrun != before.overrun {
+        return None;
+    }
+    let limit = matches!(seen.call, Call::Limit(..));
+    match (before.wave, after.wave) {
+        (from, _) if !driven(from) => Some("from steady, runs on"),
+        (from, to) if from < to => Some("raised, runs on"),
+        (from, to) if from > to || !limit => None,
+        _ if after.limit == before.limit => Some("same limit, runs on"),
+        _ if after.limit < before.limit => Some("lower limit, same duty, runs on"),
+        _ => None,
+    }
+}
+
+/// A limit call that would have lowered the duty, to an over-run of just 5,000 ms.
+fn lowers_at_5000(seen: &Seen) -> bool {
+    let (before, after) = (&seen.before, &seen.after);
+    let old = before.overrun.map(|start| seen.call.time() - start) == Some(5_000);
+    let duty = duty_for(after.rated.min(after.limit));
+    old && driven(before.wave) && duty.is_ok_and(|duty| duty < before.wave)
 }
 
 /// The place that alone is true.

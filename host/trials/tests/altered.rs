@@ -7,7 +7,7 @@ use chuldariin_log::{Call, Window};
 use chuldariin_trials::author::write_from;
 use chuldariin_trials::dice::Dice;
 use chuldariin_trials::edges::LARGEST;
-use chuldariin_trials::tally::{Tally, CAUSES, FAULTS, REFUSALS, STATES};
+use chuldariin_trials::tally::{Tally, ALTERED_RESTARTS, CAUSES, FAULTS, REFUSALS, STATES};
 use chuldariin_trials::trial::Trial;
 use chuldariin_trials::wild::{faults, verdict, wild, AGES, BYTES, CLOSINGS};
 
@@ -208,10 +208,11 @@ const FREE: [Change; 5] = [
 ];
 
 /// What must have occurred on wild controllers: also every set of causes.
-const WANTED: [(&str, &[&str]); 7] = [
+const WANTED: [(&str, &[&str]); 8] = [
     ("refusal", &REFUSALS),
     ("opened by", CAUSES.split_at(1).1),
     ("latched", &FAULTS),
+    ("restart", &ALTERED_RESTARTS),
     ("closing", &["in C", "in D"]),
     ("state", &STATES),
     (

@@ -2,7 +2,9 @@
 
 use chuldariin_trials::author::write;
 use chuldariin_trials::styles::{list, seeds, STYLES};
-use chuldariin_trials::tally::{Tally, ABOVE_ON, FAULTS, LARGEST_ON, MOST_ON, REFUSALS, STARTS_ON};
+use chuldariin_trials::tally::{
+    Tally, ABOVE_ON, FAULTS, LARGEST_ON, MOST_ON, REFUSALS, RESTARTS, STARTS_ON,
+};
 
 const WORDS: [&str; 7] = [
     "begin", "sample", "limit", "measure", "fault", "clear", "tick",
@@ -32,7 +34,7 @@ const REACHED_STATES: [&str; 10] = ["U0", "A1", "B1", "B2", "C1", "C2", "D1", "D
 const LENGTHS: [&str; 8] = ["0", "1", "255", "256", "257", "1,023", "1,024", "1,025"];
 
 /// What must have occurred when all lists are done.
-const WANTED: [(&str, &[&str]); 16] = [
+const WANTED: [(&str, &[&str]); 17] = [
     ("refusal", &REFUSALS),
     ("accepted", &WORDS),
     ("refused", &WORDS),
@@ -41,6 +43,7 @@ const WANTED: [(&str, &[&str]); 16] = [
     ("closing", &["in C", "in D"]),
     ("state", &REACHED_STATES),
     ("age", &AGES),
+    ("restart", &RESTARTS),
     (
         "closes but for",
         &[

@@ -113,6 +113,61 @@ fn an_over_run_on_each_line() {
     }
 }
 
+/// An over-run from 1,000 on, with ready samples; this limit comes so long after.
+fn limited_at(age: u64, limit: u32) -> Vec<Call> {
+    let mut calls = list("");
+    calls.extend(ready(50, 1_000));
+    calls.push(Call::Measure(1_000, 35_179));
+    calls.extend(ready(1_000, 999 + age));
+    calls.push(Call::Limit(1_000 + age, limit));
+    calls
+}
+
+/// The state after these calls, then ready samples up to a time, and a tick then.
+fn held(mut calls: Vec<Call>, time: u64) -> State {
+    let last = calls.last().map_or(0, Call::time);
+    calls.extend(ready(last, time));
+    calls.push(Call::Tick(time));
+    run(calls)
+}
+
+#[test]
+fn a_lowered_duty_restarts_an_over_run() {
+    let lowered = limited_at(4_999, 16_000);
+    assert_eq!(run(lowered.clone()).overrun, Some(5_999));
+    let early = held(lowered.clone(), 10_998);
+    assert_eq!((early.wave, early.closed), (266, true));
+    assert!(held(lowered, 10_999).faults[1]);
+    let late = run(limited_at(5_000, 16_000));
+    assert!(late.faults[1] && late.wave == 0);
+    // Lowered once more: from then on.
+    let mut twice = limited_at(4_000, 16_000);
+    twice.extend(ready(5_000, 7_000));
+    twice.push(Call::Limit(7_000, 10_000));
+    assert!(held(twice.clone(), 11_999).closed);
+    assert!(held(twice, 12_000).faults[1]);
+}
+
+#[test]
+fn no_other_limit_restarts_it() {
+    // The same; lower by so little that the duty stays.
+    for limit in [32_000, 31_980] {
+        let calls = limited_at(4_999, limit);
+        assert_eq!(run(calls.clone()).overrun, Some(1_000), "{limit}");
+        assert!(held(calls, 6_000).faults[1], "{limit}");
+    }
+    assert_eq!(run(limited_at(4_999, 31_979)).overrun, Some(5_999));
+    // Raised.
+    let mut calls = list("limit 40 16000\nmeasure 40 17557\n");
+    calls.extend(ready(50, 5_030));
+    calls.push(Call::Limit(5_039, 32_000));
+    let raised = run(calls.clone());
+    assert_eq!((raised.wave, raised.overrun), (533, Some(40)));
+    assert!(held(calls, 5_040).faults[1]);
+    // None runs.
+    assert_eq!(after("limit 50 16000\n").overrun, None);
+}
+
 #[test]
 fn the_last_accepted_measure_is_kept() {
     assert_eq!(after("").lines, [0, 0, 0]);

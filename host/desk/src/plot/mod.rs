@@ -8,7 +8,7 @@
 //! | `reduce` | fewer points, where several fall on one pixel |
 //! | `levels` | the high and the low level over the bands |
 //! | `currents` | the announced current, the limit, and what was measured |
-//! | `strips` | contactor, state, fault and refusals |
+//! | `strips` | contactor, state, over-run, fault and refusals |
 //! | `marks` | closings and openings, and the list of causes |
 
 mod currents;
@@ -40,8 +40,8 @@ const LEVELS_END: f64 = 392.0;
 const CURRENTS: f64 = 412.0;
 const CURRENTS_END: f64 = 528.0;
 const STRIPS: f64 = 552.0;
-const AXIS: f64 = 652.0;
-const CAUSES: f64 = 716.0;
+const AXIS: f64 = 676.0;
+const CAUSES: f64 = 740.0;
 
 /// So much of the name is shown, in letters.
 const NAME: usize = 90;

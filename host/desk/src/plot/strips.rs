@@ -1,9 +1,10 @@
-//! Contactor, state, fault and refusals: what holds from when to when.
+//! Contactor, state, over-run, fault and refusals: what holds from when to when.
 
 use super::scale::Scale;
 use super::svg::{Anchor, Svg};
-use super::track::{Run, Track};
+use super::track::{Overrun, Run, Track};
 use super::{LEFT, RIGHT, STRIPS};
+use crate::causes::fault_2_at;
 use crate::table::state;
 use crate::words::faults;
 
@@ -54,8 +55,13 @@ pub fn draw(svg: &mut Svg, track: &Track, scale: &Scale) {
     strip(svg, 1, "state", &states, |(letter, digit)| {
         Part::new(&state(*letter, *digit), "", colour(*letter, *digit))
     });
+    let overruns = spans(&track.overrun, track, scale);
+    strip(svg, 2, "over-run", &overruns, |overrun| {
+        overrun.and_then(run_of)
+    });
+    restarts(svg, &overruns);
     let latched = spans(&track.faults, track, scale);
-    strip(svg, 2, "fault", &latched, |latched| {
+    strip(svg, 3, "fault", &latched, |latched| {
         let numbers: Vec<String> = (1..=5)
             .filter(|&fault| latched[fault - 1])
             .map(|fault| fault.to_string())
@@ -66,9 +72,33 @@ pub fn draw(svg: &mut Svg, track: &Track, scale: &Scale) {
         }
     });
     let refused: Vec<Span<()>> = track.refused.iter().map(|at| place(scale.x(*at))).collect();
-    strip(svg, 3, "refused", &refused, |_| {
+    strip(svg, 4, "refused", &refused, |_| {
         Part::new("refused", "", "#9a6700")
     });
+}
+
+/// An over-run and when fault 2 comes; paler where a lowered duty has restarted it.
+fn run_of(overrun: Overrun) -> Option<Part> {
+    let due = fault_2_at(overrun.start);
+    let short = due.trim_end_matches(" unless it ends");
+    match overrun.start == overrun.first {
+        true => Part::new(&format!("over-run: {due}"), short, "#ffb77c"),
+        false => Part::new(
+            &format!("restarted at {}: {due}", overrun.start),
+            short,
+            "#ffdfb6",
+        ),
+    }
+}
+
+/// A line where an over-run restarts; one that goes on at the start restarted before it.
+fn restarts(svg: &mut Svg, overruns: &[Span<Option<Overrun>>]) {
+    let top = STRIPS + 2.0 * APART;
+    for span in overruns.iter().filter(|span| span.from > LEFT) {
+        if span.value.is_some_and(|run| run.start != run.first) {
+            svg.line((span.from, top), (span.from, top + HEIGHT), "frame");
+        }
+    }
 }
 
 /// A call, wide enough to be seen.

@@ -36,6 +36,22 @@ pub struct Levels {
     pub joined: bool,
 }
 
+/// An over-run: its start, and when it first began, on the post's clock.
+#[derive(Clone, Copy, Debug, PartialEq, Eq)]
+pub struct Overrun {
+    pub start: u64,
+    pub first: u64,
+}
+
+impl Overrun {
+    fn after(turn: &Turn) -> Option<Overrun> {
+        Some(Overrun {
+            start: turn.after.overrun?,
+            first: turn.still_over_since()?,
+        })
+    }
+}
+
 /// The time of the axis: the log's own, that runs on where a later list starts at an earlier time.
 #[derive(Default)]
 struct Clock {
@@ -83,13 +99,14 @@ pub struct Track {
     pub three_lines: bool,
     pub closed: Vec<Run<bool>>,
     pub state: Vec<Run<(u8, u8)>>,
+    pub overrun: Vec<Run<Option<Overrun>>>,
     pub faults: Vec<Run<[bool; 5]>>,
     pub refused: Vec<u64>,
     pub marks: Vec<Mark>,
     clock: Clock,
     last_sample: Option<u64>,
     /// What held before the first call that is drawn.
-    held: Option<(State, raw::Reply)>,
+    held: Option<(State, raw::Reply, Option<Overrun>)>,
 }
 
 /// Adds a value if it is another.
@@ -125,7 +142,7 @@ impl Track {
         }
         let now = self.clock.now;
         if now < part.0 && turn.accepted() {
-            self.held = Some((turn.after, turn.reply));
+            self.held = Some((turn.after, turn.reply, Overrun::after(turn)));
         }
         // Before the first begin there is no time.
         if !(part.0..=part.1).contains(&now) || !(turn.begun || turn.accepted()) {
@@ -148,9 +165,10 @@ impl Track {
     /// What held before the part that is drawn holds at its start.
     fn start(&mut self, now: u64, from: u64) {
         self.origin = now;
-        if let Some((state, reply)) = self.held {
+        if let Some((state, reply, overrun)) = self.held {
             self.origin = from;
             self.values(0, &state, &reply);
+            run(&mut self.overrun, 0, overrun);
         }
     }
 
@@ -173,6 +191,7 @@ impl Track {
             self.three_lines |= matches!(turn.call, Call::MeasureLines(..));
         }
         self.values(at, &turn.after, &turn.reply);
+        run(&mut self.overrun, at, Overrun::after(turn));
         self.mark(at, turn);
     }
 
