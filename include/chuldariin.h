@@ -5,7 +5,7 @@
  * then the controller is as it was. Nothing is allocated, nothing is kept elsewhere, nothing blocks. A
  * sample makes n * n comparisons of n readings at the most, of eight instructions each: 8.4 million
  * instructions for 1,024 readings of which none is supported, 0.5 million for 256. The other calls take
- * about 700 instructions, a measure up to 1,250.
+ * about 700 instructions, a measure up to 1,300.
  *
  *     struct chuldariin_controller post = {0};
  *     struct chuldariin_reply r = chuldariin_begin(&post, now_ms, 32000, 0, false);
@@ -40,7 +40,8 @@
  *     call every 20 ms that is above 100 whatever the window. Windows of 4 ms, a call every 5 ms and
  *     10 ms of travel make 100.
  *   - Whoever makes the limit calls waits: 3 s after a wave was withdrawn in state B (sequence 9.2), and
- *     5 s between two changes of the duty (sequence 6). The controller delays no limit.
+ *     5 s between two changes of the duty (sequence 6). The controller delays no limit, and each lowered
+ *     duty restarts the 5 s of fault 2: lowered again and again within 5 s, it does not come.
  *   - Signals of digital communication (148 kHz and more, table A2.1) are filtered before the converter.
  *   - It decides when to call clear. A latched fault, 1 and 2 too, stays when the van is unplugged.
  *
@@ -99,7 +100,7 @@ enum {
 enum {
     CHULDARIIN_FAULT_NONE = 0,
     CHULDARIIN_FAULT_DIODE = 1,        /* the van's pilot diode is missing */
-    CHULDARIIN_FAULT_OVERCURRENT = 2,  /* more than 1.1 times the announced current for 5 s */
+    CHULDARIIN_FAULT_OVERCURRENT = 2,  /* more than 1.1 times the announced current for 5 s, see measure_lines */
     CHULDARIIN_FAULT_RESIDUAL = 3,     /* residual current */
     CHULDARIIN_FAULT_WELDED = 4,       /* welded contact */
     CHULDARIIN_FAULT_TEMPERATURE = 5   /* over-temperature */
@@ -167,7 +168,7 @@ struct chuldariin_controller {
     uint64_t last;                       /* time of the last accepted call, or of begin, ms */
     struct chuldariin_moment sound;      /* the last sound sample */
     struct chuldariin_moment opening;    /* the last opening */
-    struct chuldariin_moment overrun;    /* the start of the over-run */
+    struct chuldariin_moment overrun;    /* the start of the over-run, or its last restart */
     struct chuldariin_moment stop;       /* the start of the stop */
     struct chuldariin_previous previous; /* the previous sample */
     uint32_t closings;                   /* how often the contactor has closed since begin */
@@ -252,13 +253,15 @@ struct chuldariin_reply chuldariin_sample(struct chuldariin_controller *c, uint6
                                           const int32_t *readings, size_t count);
 
 /* The depot's limit, 0 to 80,000 mA. It acts in this call: nothing is delayed. Below 6,000 no wave is
- * driven, and a closed contactor opens once that has lasted 3 s. Refused: 3, 2, 1, 7. */
+ * driven, and a closed contactor opens once that has lasted 3 s. A limit that lowers the duty gives the
+ * van 5 s to follow: see measure_lines. Refused: 3, 2, 1, 7. */
 struct chuldariin_reply chuldariin_limit(struct chuldariin_controller *c, uint64_t time, uint32_t current);
 
 /* The current measured on each line, 0 to 200,000 mA; a line that the van does not use has 0. All three
  * are kept and shown, whatever the contactor and the wave; with the contactor closed and the wave driven
- * the largest is judged: more than 1.1 times the announced current for 5 s is fault 2. If any of them is
- * above 200,000 none is kept. Refused: 3, 2, 1, 7. */
+ * the largest is judged: more than 1.1 times the announced current for 5 s is fault 2. A duty that is
+ * lowered within these 5 s restarts them; a raised one, or the same again, does not. If any of the three
+ * is above 200,000 none is kept. Refused: 3, 2, 1, 7. */
 struct chuldariin_reply chuldariin_measure_lines(struct chuldariin_controller *c, uint64_t time, uint32_t line1,
                                                  uint32_t line2, uint32_t line3);
 

@@ -46,8 +46,8 @@ pub record EveryRun (begin : Begin) (calls : List Call) (beginReply : Reply) (re
   pub waves : (k : ℕ) → k ≤ length calls → replied beginReply replies k .wave ≡ before begin calls k .wave
   -- the currents that each reply shows are those of the last accepted measure, or 0 (document 02, b)
   pub lines-are : (k : ℕ) → k ≤ length calls → LastMeasured begin calls k (asLines (replied beginReply replies k .lines))
-  -- fault 2 comes exactly with a call that finds the van over its bound for 5,000 or longer, and with 5,000 or longer to follow each lowered duty
-  -- (document 02, c)
+  -- fault 2 comes exactly with a call that finds the van over its bound for 5,000 or longer, and that comes 5,000 or longer after every lowered duty
+  -- (document 02, c); the faults are the replay's, which the replies and the controller follow (`replies-are`, `state-is`)
   pub over-current : OverCurrentExactly begin calls
   -- demand 1: each number comes for its condition and for nothing else, and 1 never
   pub refused-by : (k : ℕ) → k < length calls → RefusedBy (lentOfReplies begin calls beginReply replies k) (getD calls k noCall) (replied beginReply replies (suc k) .refusal)

@@ -33,7 +33,7 @@ pub struct Controller {
     pub sound: Moment,
     // The last opening.
     pub opening: Moment,
-    // The starts of the over-run and of the stop.
+    // The starts of the over-run, or its last restart, and of the stop.
     pub overrun: Moment,
     pub stop: Moment,
     pub previous: Previous,

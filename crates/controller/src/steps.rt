@@ -39,7 +39,7 @@ impl Controller {
         self
     }
 
-    // The over-run has lasted for 5,000 or longer.
+    // The over-run began, or restarted, 5,000 or longer ago.
     pub(crate) fn over_current(self, time: Millis) -> bool
         ensures { λ r. ⌜ r ≡ overCurrent (time .0) (stateOf self) ⌝ }
     {

@@ -23,7 +23,7 @@ use Rattle.rules.proofs.Ranges.{range-whole}
 use Rattle.rules.proofs.Replayed.{memoryOf, Follows, lawful, demand3-told}
 use Rattle.rules.proofs.Stepped.{before-next, step-by}
 use Rattle.rules.proofs.Turns.{turn-next}
-use Rattle.rules.proofs.Spacing.{not-before, at-most, counts}
+use Rattle.rules.proofs.Spacing.{in-order, at-most, counts}
 
 -- a controller that was not altered is refused what the table refuses
 pub lent-refusal : (lent : Lent) (call : EvaluatedCall) → altered lent ≡ false → lentRefusal lent call ≡ refusal (lent .state) call
@@ -72,11 +72,11 @@ module _ (begin : Begin) (calls : List Call) (accepted : beginRefusal begin ≡ 
       rw (counts (traceOf begin calls (λ k. before begin calls k .closed) tally) (memoryOf begin calls) laws k within)
       (at-most (traceOf begin calls (λ k. before begin calls k .closed) tally) (memoryOf begin calls) laws k within)
 
-  -- the clock: an accepted call is not later than the last accepted one
-  pub last-not-before : (i k : ℕ) → isAccepted (before begin calls i) (callAt begin calls i) ≡ true → i < k → k ≤ length calls
-      → callAt begin calls i .time ≤ before begin calls k .last
-  last-not-before =
-      not-before (traceOf begin calls (λ k. before begin calls k .closed) tally) (memoryOf begin calls) (lawful begin calls _ tally by-replay accepted)
+  -- the clock: the times of accepted calls do not fall
+  pub times-in-order : (i k : ℕ) → isAccepted (before begin calls i) (callAt begin calls i) ≡ true → isAccepted (before begin calls k) (callAt begin calls k) ≡ true
+      → i < k → k < length calls → callAt begin calls i .time ≤ callAt begin calls k .time
+  times-in-order =
+      in-order (traceOf begin calls (λ k. before begin calls k .closed) tally) (memoryOf begin calls) (lawful begin calls _ tally by-replay accepted)
 
   -- no list leads to a controller that refusal 1 names
   pub tally-not-altered : (k : ℕ) → k ≤ length calls → altered (record { state = before begin calls k; closings = tally k }) ≡ false

@@ -25,6 +25,8 @@ pub mod Reaching
 pub mod Every20
 pub mod LastMeasured
 pub mod Overruns
+pub mod OverrunsAt
+pub mod OverrunSince
 pub mod OverCurrent
 pub mod EveryList
 pub mod Altered

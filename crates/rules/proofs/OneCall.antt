@@ -14,7 +14,7 @@ use Rattle.rules.specs.Pairs.{Pair, verdict, paired, sameBand, inOneBand
 use Rattle.rules.specs.State.{State, setTo, neverOrAgo}
 use Rattle.rules.specs.Step4Opening.{opens}
 use Rattle.rules.specs.Step5Closing.{pauseOver, closes}
-use Rattle.rules.proofs.Booleans.{clash}
+use Rattle.rules.proofs.Booleans.{clash, or-true}
 use Rattle.rules.proofs.Lawful.{previousBy}
 use Rattle.rules.proofs.Moments.{never-or-ago}
 
@@ -55,11 +55,7 @@ module _ (s : State) (call : EvaluatedCall) where
 
   -- an opening forgets
   pub opening-forgets : s .closed ≡ true → causeAt s call ≡ true → unsettlesAt s call || opensAt s call ≡ true
-  opening-forgets closed cause = rw (opens-when closed cause) (go (unsettlesAt s call))
-    where
-      go : (b : Bool) → b || true ≡ true
-      go true = refl
-      go false = refl
+  opening-forgets closed cause = rw (opens-when closed cause) (or-true (unsettlesAt s call))
 
 -- what two samples show that are both proven in the same band
 pub record ProvenPair (pair : Pair) : Type 0 where

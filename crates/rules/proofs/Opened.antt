@@ -30,6 +30,15 @@ module _ (s : State) (time : ℕ) (was : s .closed ≡ false) where
   unfolding stopUnder
   stop-open wave none = rw was (either-unset (driven wave) empty (s .stop) refl none)
 
+-- with none that runs a lowered duty starts none
+pub none-restarts : (old wave time : ℕ) (m : Moment) → m .set ≡ false → cond (restarts old wave m) (setTo time) m .set ≡ false
+unfolding restarts
+none-restarts old wave time m none = go (lowersDuty old wave)
+  where
+    go : (b : Bool) → cond (b && m .set) (setTo time) m .set ≡ false
+    go true = rw none
+    go false = none
+
 -- an open contactor was opened by this call, or was open before it
 module _ (s : State) (call : EvaluatedCall) where
   data StaysOpen : Type 0 where
@@ -44,23 +53,17 @@ module _ (s : State) (call : EvaluatedCall) where
       go false false m p q f = from-before q p
       go true false m p q f = clash refl f
 
-  none-restarts : (wave : ℕ) (m : Moment) → m .set ≡ false → overrunUnder (call .time) (s .wave) wave m .set ≡ false
-  unfolding overrunUnder restarts
-  none-restarts wave m none = either-unset (driven wave) _ empty (go (lowersDuty (s .wave) wave)) refl
-    where
-      go : (b : Bool) → cond (b && m .set) (setTo (call .time)) m .set ≡ false
-      go true = rw none
-      go false = none
-
   pub no-overrun : (s .closed ≡ false → s .overrun .set ≡ false) → accept s call .closed ≡ false → accept s call .overrun .set ≡ false
+  unfolding overrunUnder
   no-overrun before e = go (stays-open e)
     where
       go : StaysOpen → accept s call .overrun .set ≡ false
       go (by-call o) = ap (λ b. cond b empty (afterWave s call .overrun) .set) o
       go (from-before o c) =
           either-unset (opensAt s call) empty (afterWave s call .overrun) refl
-          (none-restarts (waveFor (afterLatch s call)) (overrunBy (call .time) (call .event) s)
-          (ap (λ m. m .set) (overrun-open s (call .time) c (call .event)) ∙ before c))
+          (either-unset (driven (waveFor (afterLatch s call))) _ empty
+          (none-restarts (s .wave) (waveFor (afterLatch s call)) (call .time) (overrunBy (call .time) (call .event) s)
+          (ap (λ m. m .set) (overrun-open s (call .time) c (call .event)) ∙ before c)) refl)
 
   pub no-stop : (s .closed ≡ false → s .stop .set ≡ false) → accept s call .closed ≡ false → accept s call .stop .set ≡ false
   no-stop before e = go (stays-open e)

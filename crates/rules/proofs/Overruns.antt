@@ -15,11 +15,10 @@ use Rattle.rules.specs.State.{State, Moment, empty, setTo}
 use Rattle.rules.specs.Step1Event.{linesBy, withKind, faultsBy, announced, isOver, overrunAt, overrunBy}
 use Rattle.rules.specs.Step2Latches.{ranFor, overCurrent, latched}
 use Rattle.rules.specs.Step3Wave.{lowersDuty, restarts, overrunUnder}
-use Rattle.rules.proofs.Booleans.{clash}
+use Rattle.rules.proofs.Booleans.{clash, or-true}
 use Rattle.rules.proofs.OneCall.{closes-exactly}
-use Rattle.rules.proofs.Opened.{runs-driven}
 
--- a duty is lowered, in numbers
+-- a duty is lowered, as numbers tell it
 pub record LowersTo (old wave : ℕ) : Type 0 where
   pub was-driven : driven old ≡ true
   pub still-driven : driven wave ≡ true
@@ -38,15 +37,6 @@ module _ (old wave : ℕ) (overrun : Moment) where
       let three = and-parts (driven wave) (ltb wave old) (two .1) in
       (one .1, record { was-driven = two .0; still-driven = three .0; lower = ltb-true wave old (three .1) })
 
--- with none that runs, nothing starts
-pub none-restarts : (old wave time : ℕ) → cond (restarts old wave empty) (setTo time) empty .set ≡ false
-unfolding restarts
-none-restarts old wave time = go (lowersDuty old wave)
-  where
-    go : (b : Bool) → cond (b && false) (setTo time) empty .set ≡ false
-    go true = refl
-    go false = refl
-
 module _ (s : State) (call : EvaluatedCall) where
   -- the call is a measure that is judged
   pub record JudgedBy (lines : Lines) : Type 0 where
@@ -54,8 +44,8 @@ module _ (s : State) (call : EvaluatedCall) where
     pub closed : s .closed ≡ true
     pub driven-wave : driven (s .wave) ≡ true
 
-  abbrev pub IsOver : Lines → Type 0
-  IsOver lines = 11 * announced (s .wave) < 10 * largest lines
+  abbrev pub AboveBound : Lines → Type 0
+  AboveBound lines = 11 * announced (s .wave) < 10 * largest lines
 
   -- the over-run after step 1
   abbrev pub afterStep1 : Moment
@@ -63,8 +53,8 @@ module _ (s : State) (call : EvaluatedCall) where
 
   -- the event leaves it, and if it is a judged measure, that was over and found one that runs; or starts it; or ends it
   pub data ByEvent : Type 0 where
-    left : afterStep1 ≡ s .overrun → ((lines : Lines) → JudgedBy lines → IsOver lines × (s .overrun .set ≡ true)) → ByEvent
-    starts : (lines : Lines) → JudgedBy lines → IsOver lines → s .overrun .set ≡ false → afterStep1 ≡ setTo (call .time) → ByEvent
+    left : afterStep1 ≡ s .overrun → ((lines : Lines) → JudgedBy lines → AboveBound lines × (s .overrun .set ≡ true)) → ByEvent
+    starts : (lines : Lines) → JudgedBy lines → AboveBound lines → s .overrun .set ≡ false → afterStep1 ≡ setTo (call .time) → ByEvent
     ends : (lines : Lines) → JudgedBy lines → 10 * largest lines ≤ 11 * announced (s .wave) → afterStep1 ≡ empty → ByEvent
 
   pub same-lines : (a b : Lines) → call .event ≡ measure a → call .event ≡ measure b → a ≡ b
@@ -78,7 +68,7 @@ module _ (s : State) (call : EvaluatedCall) where
       other : (event : Event Evaluation) → call .event ≡ event → isMeasure event ≡ false → afterStep1 ≡ s .overrun → ByEvent
       other event is none same = left same (λ lines judged. clash (ap isMeasure (sym is ∙ judged .is)) none)
 
-      over-is : (lines given : Lines) → call .event ≡ measure lines → JudgedBy given → IsOver lines → IsOver given
+      over-is : (lines given : Lines) → call .event ≡ measure lines → JudgedBy given → AboveBound lines → AboveBound given
       over-is lines given is judged over = rw (same-lines given lines (judged .is) is) over
 
       by : (lines : Lines) (c d o r : Bool) → call .event ≡ measure lines → s .closed ≡ c → driven (s .wave) ≡ d
@@ -101,8 +91,8 @@ module _ (s : State) (call : EvaluatedCall) where
       kind tick is = other tick is refl (rw is)
 
   -- a contactor that stays closed was not opened
-  pub not-opened : s .closed ≡ true → accept s call .closed ≡ true → opensAt s call ≡ false
-  not-opened was is = go (opensAt s call) (closesAt s call) refl refl is
+  pub stays-closed : s .closed ≡ true → accept s call .closed ≡ true → opensAt s call ≡ false
+  stays-closed was is = go (opensAt s call) (closesAt s call) refl refl is
     where
       go : (o m : Bool) → opensAt s call ≡ o → closesAt s call ≡ m → (s .closed && not o) || m ≡ true → opensAt s call ≡ false
       go false m p q f = p
@@ -142,7 +132,7 @@ module _ (s : State) (call : EvaluatedCall) where
 
   -- a call that latches fault 2 found an over-run that began 5,000 or more ago, and is no measure within its bound
   pub latches : s .faults .overcurrent ≡ false → accept s call .faults .overcurrent ≡ true
-      → (s .overrun .set ≡ true) × (s .overrun .time + 5000 ≤ call .time) × ((lines : Lines) → JudgedBy lines → IsOver lines)
+      → (s .overrun .set ≡ true) × (s .overrun .time + 5000 ≤ call .time) × ((lines : Lines) → JudgedBy lines → AboveBound lines)
   unfolding overCurrent ranFor
   latches none is = go by-event (and-parts (afterStep1 .set) _ old)
     where
@@ -150,7 +140,7 @@ module _ (s : State) (call : EvaluatedCall) where
       old = ap (λ b. b || overCurrent (call .time) (afterEvent s call)) (sym (two-left (call .event) none)) ∙ sym two-is ∙ is
 
       go : ByEvent → (afterStep1 .set ≡ true) × (leb (afterStep1 .time + 5000) (call .time) ≡ true)
-          → (s .overrun .set ≡ true) × (s .overrun .time + 5000 ≤ call .time) × ((lines : Lines) → JudgedBy lines → IsOver lines)
+          → (s .overrun .set ≡ true) × (s .overrun .time + 5000 ≤ call .time) × ((lines : Lines) → JudgedBy lines → AboveBound lines)
       go (left same judged) known = (
         sym (ap (λ m. m .set) same) ∙ known .0,
         leb-true (s .overrun .time + 5000) (call .time) (ap (λ m. leb (m .time + 5000) (call .time)) (sym same) ∙ known .1),
@@ -164,11 +154,7 @@ module _ (s : State) (call : EvaluatedCall) where
   pub latches-when : afterStep1 ≡ s .overrun → s .overrun .set ≡ true → s .overrun .time + 5000 ≤ call .time → accept s call .faults .overcurrent ≡ true
   unfolding overCurrent ranFor
   latches-when same runs long =
-      two-is ∙ ap (λ b. faultsBy (call .event) (s .faults) .overcurrent || b) old ∙ either (faultsBy (call .event) (s .faults) .overcurrent)
+      two-is ∙ ap (λ b. faultsBy (call .event) (s .faults) .overcurrent || b) old ∙ or-true (faultsBy (call .event) (s .faults) .overcurrent)
     where
       old : overCurrent (call .time) (afterEvent s call) ≡ true
       old = ap (λ m. m .set && leb (m .time + 5000) (call .time)) same ∙ rw (runs, le-leb (s .overrun .time + 5000) (call .time) long)
-
-      either : (b : Bool) → b || true ≡ true
-      either true = refl
-      either false = refl

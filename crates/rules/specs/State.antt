@@ -91,7 +91,7 @@ pub record State : Type 0 where
   -- the times of the last sound sample and of the last opening
   pub sound : Moment
   pub opening : Moment
-  -- the starts of the over-run and of the stop
+  -- the starts of the over-run, or its last restart, and of the stop
   pub overrun : Moment
   pub stop : Moment
   pub previous : Previous

@@ -133,13 +133,16 @@ impl Post {
         reply::accepted(reply)
     }
 
-    /// The depot's limit, 0 to 80,000 mA.
+    /// The depot's limit, 0 to 80,000 mA. If it lowers the duty, a running over-run restarts: the van has
+    /// 5 s to follow.
     pub fn limit(&mut self, time: Millis, current: Milliamps) -> Result<Reply, Refusal> {
         // SAFETY: as in begin_again.
         reply::accepted(unsafe { raw::chuldariin_limit(&mut self.controller, time.0, current.0) })
     }
 
-    /// The current measured on each line, line 1 first, 0 to 200,000 mA each.
+    /// The current measured on each line, line 1 first, 0 to 200,000 mA each. With the contactor closed and
+    /// the wave driven, more than 1.1 times the announced current on any of them is an over-run, which is
+    /// fault 2 after 5 s.
     pub fn measure_lines(&mut self, time: Millis, lines: [Milliamps; 3]) -> Result<Reply, Refusal> {
         let [line1, line2, line3] = lines.map(|line| line.0);
         // SAFETY: as in begin_again.

@@ -97,7 +97,7 @@ pub struct Controller {
     pub sound: Moment,
     /// The last opening.
     pub opening: Moment,
-    /// The start of the over-run.
+    /// The start of the over-run, or its last restart.
     pub overrun: Moment,
     /// The start of the stop.
     pub stop: Moment,

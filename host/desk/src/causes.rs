@@ -1,6 +1,6 @@
 //! What happened in a call, and why: closings, openings with their causes, latches, over-runs and stops.
 
-use crate::turn::{Sample, Turn};
+use crate::turn::{Overrun, Sample, Turn};
 use crate::words::{duty, faults, grouped, largest, letter, refusal, why_steady, FAULTS, NUMERALS};
 use chuldariin_log::Call;
 use chuldariin_model::{reading, Reading, State, OVERRUN_AGE, STOP_AGE};
@@ -195,63 +195,68 @@ pub fn closed(turn: &Turn) -> String {
 
 /// An over-run that starts, ends without a fault, or runs on under another duty.
 fn overrun(turn: &Turn, notes: &mut Vec<Note>) {
-    let (was, is) = (turn.before.overrun, turn.after.overrun);
-    let words = match (was, is, turn.call) {
+    let words = match (turn.before.overrun, turn.after.overrun, turn.call) {
         (None, Some(start), call) => format!(
             "over-run starts: {} is above {}; {}",
             judged_current(call, &turn.after),
             allowed(&turn.before),
-            fault_2_at(start)
+            unless(start)
         ),
-        (Some(old), Some(start), _) if turn.before.wave != turn.after.wave => {
-            another_duty(turn, old, start)
+        (Some(_), Some(start), _) if turn.before.wave != turn.after.wave => {
+            another_duty(turn, start)
         }
-        (Some(start), None, _) if !turn.outcome.latched[1] => ended(turn, start),
+        (Some(_), None, _) if !turn.outcome.latched[1] => format!("over-run ends, {}", age(turn)),
         _ => return,
     };
     notes.push(note(Kind::Event, words));
 }
 
 /// A lowered duty restarts an over-run, and a raised one leaves it running.
-fn another_duty(turn: &Turn, old: u64, start: u64) -> String {
+fn another_duty(turn: &Turn, start: u64) -> String {
     let (what, way) = match turn.outcome.restarted {
         true => ("restarts", "lowered"),
         false => ("runs on", "raised"),
     };
     format!(
-        "over-run {what}, {} ms old: the duty is {way} from {} to {}; {}",
-        grouped(turn.after.last - old),
+        "over-run {what}, {}: the duty is {way} from {} to {}; {}",
+        age(turn),
         duty(turn.before.wave),
         duty(turn.after.wave),
-        fault_2_at(start)
+        unless(start)
     )
 }
 
-fn ended(turn: &Turn, start: u64) -> String {
-    let age = grouped(turn.after.last - start);
-    match restarted(turn) {
-        None => format!("over-run ends, {age} ms old"),
-        Some(first) => format!("over-run ends, {age} ms after its restart; it began at {first}"),
+/// How old the over-run is that the call found.
+fn age(turn: &Turn) -> String {
+    let Some(overrun) = turn.overrun else {
+        return String::new();
+    };
+    let age = grouped(turn.after.last - overrun.start);
+    match overrun.restarted() {
+        false => format!("{age} ms old"),
+        true => format!("{age} ms after its restart (it began at {})", overrun.first),
     }
 }
 
 /// When fault 2 comes to an over-run of this start.
 pub fn fault_2_at(start: u64) -> String {
-    format!("fault 2 at {} unless it ends", start + OVERRUN_AGE)
+    format!("fault 2 at {}", start + OVERRUN_AGE)
 }
 
-/// When the over-run that the call found first began, if it has restarted since.
-fn restarted(turn: &Turn) -> Option<u64> {
-    turn.over_since
-        .filter(|_| turn.over_since != turn.before.overrun)
+/// The same, and what puts it off.
+pub fn unless(start: u64) -> String {
+    format!(
+        "{} unless it ends or the duty is lowered",
+        fault_2_at(start)
+    )
 }
 
 /// How old an over-run is that latches fault 2.
 fn overrun_so_far(turn: &Turn) -> String {
     let ago = ago(turn.before.overrun, turn);
-    match restarted(turn) {
+    match turn.overrun.filter(|overrun| overrun.restarted()) {
         None => format!("the over-run began {ago}"),
-        Some(first) => {
+        Some(Overrun { first, .. }) => {
             format!("the over-run restarted {ago}, when the duty was lowered; it began at {first}")
         }
     }

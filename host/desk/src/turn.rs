@@ -30,6 +30,22 @@ pub enum Forgotten {
     Fault(u64),
 }
 
+/// An over-run that runs.
+#[derive(Clone, Copy, Debug, PartialEq, Eq)]
+pub struct Overrun {
+    /// Its start, or its last restart: what the controller keeps.
+    pub start: u64,
+    /// When it first began.
+    pub first: u64,
+}
+
+impl Overrun {
+    /// Has a lowered duty restarted it?
+    pub fn restarted(&self) -> bool {
+        self.start != self.first
+    }
+}
+
 /// A call, what the archive told, and why.
 #[derive(Clone, Copy, Debug)]
 pub struct Turn<'a> {
@@ -49,15 +65,16 @@ pub struct Turn<'a> {
     pub sample: Option<Sample>,
     /// The previous one, as the call found it; begin looks for none.
     pub previous: Result<Sample, Forgotten>,
-    /// When the running over-run first began, as the call found it: a restart does not move this.
-    pub over_since: Option<u64>,
+    /// The over-run as the call found it.
+    pub overrun: Option<Overrun>,
 }
 
 impl Turn<'_> {
-    /// When the over-run first began that runs after the call.
-    pub fn still_over_since(&self) -> Option<u64> {
+    /// The over-run as the call leaves it.
+    pub fn overrun_after(&self) -> Option<Overrun> {
         let start = self.after.overrun?;
-        self.over_since.or(Some(start))
+        let first = self.overrun.map_or(start, |overrun| overrun.first);
+        Some(Overrun { start, first })
     }
 
     pub fn accepted(&self) -> bool {
@@ -102,7 +119,7 @@ pub struct Post {
     state: State,
     begun: bool,
     previous: Result<Sample, Forgotten>,
-    over_since: Option<u64>,
+    overrun: Option<Overrun>,
     room: Room,
 }
 
@@ -114,7 +131,7 @@ impl Default for Post {
             lent,
             begun: false,
             previous: Err(Forgotten::Never),
-            over_since: None,
+            overrun: None,
             room: Room::default(),
         }
     }
@@ -146,9 +163,9 @@ impl Post {
                 Call::Begin(_) => Err(Forgotten::Never),
                 _ => self.previous,
             },
-            over_since: self.over_since,
+            overrun: self.overrun,
         };
-        self.over_since = turn.still_over_since();
+        self.overrun = turn.overrun_after();
         self.begun |= turn.begins();
         self.keep(&turn);
         Ok(turn)

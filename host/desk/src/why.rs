@@ -1,6 +1,6 @@
 //! The command `why`: which closing conditions hold at a time, and which do not.
 
-use crate::causes::{closed, fault_2_at, notes, Kind};
+use crate::causes::{closed, notes, unless, Kind};
 use crate::conditions::{conditions, waits_for};
 use crate::input::Log;
 use crate::paint::{Colour, Paint};
@@ -107,17 +107,21 @@ pub fn why(log: &Log, at: At, paint: Paint, out: &mut impl Write) -> Result<(), 
 
 /// An over-run that runs with the contactor closed, and when fault 2 comes.
 fn running(last: &Turn, out: &mut impl Write) -> io::Result<()> {
-    let (Some(start), Some(first)) = (last.after.overrun, last.still_over_since()) else {
+    let Some(overrun) = last.overrun_after() else {
         return Ok(());
     };
-    let restarted = match start == first {
-        true => String::new(),
-        false => format!(", restarted at {start}, when the duty was lowered"),
+    let restarted = match overrun.restarted() {
+        false => String::new(),
+        true => format!(
+            ", restarted at {}, when the duty was lowered",
+            overrun.start
+        ),
     };
+    let due = unless(overrun.start);
     writeln!(
         out,
-        "An over-run runs since {first}{restarted}: {}.",
-        fault_2_at(start)
+        "An over-run runs since {}{restarted}: {due}.",
+        overrun.first
     )
 }
 

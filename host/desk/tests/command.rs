@@ -433,9 +433,9 @@ fn over_runs_and_stops_are_told_from_start_to_end() {
     );
     let shown = text(&replay(log.as_bytes()).stdout);
     for (line, words) in [
-        (7, "over-run starts: 35,179 mA is above 35,178 (1.1 x 31,980); fault 2 at 5050 unless it ends"),
+        (7, "over-run starts: 35,179 mA is above 35,178 (1.1 x 31,980); fault 2 at 5050 unless it ends or the duty is lowered"),
         (8, "over-run ends, 10 ms old"),
-        (9, "over-run starts: 40,000 mA is above 35,178 (1.1 x 31,980); fault 2 at 5070 unless it ends"),
+        (9, "over-run starts: 40,000 mA is above 35,178 (1.1 x 31,980); fault 2 at 5070 unless it ends or the duty is lowered"),
         (10, "over-run ends, 10 ms old; stop starts: limit 5,999 mA is below 6,000; opens at 3080 unless a wave is driven by then"),
         (11, "stop ends, 10 ms old"),
         (14, "are not below 7,500 (i); stop ends, 20 ms old"),

@@ -27,8 +27,8 @@ fn rare_calls() {
         ("begin 50 80001 0 no\n", "7 ", "  REFUSED 1: rated 80,001 mA is not 6,000 to 80,000"),
         ("begin 50 80000 60001 no\n", "7 ", "  REFUSED 1: pause 60,001 ms is neither 0 nor 1,000 to 60,000"),
         ("sample 50 6000 -20000\n", "7 ", "REFUSED 5: reading 129 is -20,000 mV, where -15,000 to 15,000 are allowed"),
-        ("measure 50 31000 35179 0\n", "7 ", "over-run starts: 35,179 mA on line 2 is above 35,178 (1.1 x 31,980); fault 2 at 5050 unless it ends"),
-        ("measure 50 9 36000 36000\n", "7 ", "over-run starts: 36,000 mA on line 2 is above 35,178 (1.1 x 31,980); fault 2 at 5050 unless it ends"),
+        ("measure 50 31000 35179 0\n", "7 ", "over-run starts: 35,179 mA on line 2 is above 35,178 (1.1 x 31,980); fault 2 at 5050 unless it ends or the duty is lowered"),
+        ("measure 50 9 36000 36000\n", "7 ", "over-run starts: 36,000 mA on line 2 is above 35,178 (1.1 x 31,980); fault 2 at 5050 unless it ends or the duty is lowered"),
         ("measure 50 0 0 200001\n", "7 ", "REFUSED 7: 200,001 mA on line 3: a measured current is at most 200,000 mA"),
         ("measure 50 300000 1 200001\n", "7 ", "REFUSED 7: 300,000 mA on line 1, 200,001 mA on line 3: a measured current is at most 200,000 mA"),
         ("window 50 1 2\n", "7 ", "REFUSED 4: 2 readings, where 256 to 1,024 are allowed"),
@@ -49,15 +49,18 @@ fn rare_calls() {
 #[test]
 fn an_over_run_under_another_duty() {
     for (calls, start, note) in [
-        ("limit 60 16000\n", "8 ", "over-run restarts, 10 ms old: the duty is lowered from 53.3 % to 26.6 %; fault 2 at 5060 unless it ends"),
+        ("limit 60 16000\n", "8 ", "over-run restarts, 10 ms old: the duty is lowered from 53.3 % to 26.6 %; fault 2 at 5060 unless it ends or the duty is lowered"),
         ("limit 60 32000\n", "8 ", "  1"),
         ("limit 60 31980\n", "8 ", "  1"),
-        ("limit 60 16000\nlimit 70 10000\n", "9 ", "over-run restarts, 10 ms old: the duty is lowered from 26.6 % to 16.6 %; fault 2 at 5070 unless it ends"),
-        ("limit 60 16000\nlimit 70 20000\n", "9 ", "over-run runs on, 10 ms old: the duty is raised from 26.6 % to 33.3 %; fault 2 at 5060 unless it ends"),
-        ("limit 60 16000\nmeasure 70 0\n", "9 ", "over-run ends, 10 ms after its restart; it began at 50"),
-        ("measure 60 0\nmeasure 70 40000\nlimit 80 16000\nlimit 90 0\n", "11 ", "over-run ends, 10 ms after its restart; it began at 70; stop starts: limit 0 mA is below 6,000; opens at 3090 unless a wave is driven by then"),
+        ("limit 60 16000\nlimit 70 10000\n", "9 ", "over-run restarts, 10 ms after its restart (it began at 50): the duty is lowered from 26.6 % to 16.6 %; fault 2 at 5070 unless it ends or the duty is lowered"),
+        ("limit 60 16000\nlimit 70 20000\n", "9 ", "over-run runs on, 10 ms after its restart (it began at 50): the duty is raised from 26.6 % to 33.3 %; fault 2 at 5060 unless it ends or the duty is lowered"),
+        ("limit 60 16000\nmeasure 70 0\n", "9 ", "over-run ends, 10 ms after its restart (it began at 50)"),
+        ("measure 60 0\nmeasure 70 40000\nlimit 80 16000\nlimit 90 0\n", "11 ", "over-run ends, 10 ms after its restart (it began at 70); stop starts: limit 0 mA is below 6,000; opens at 3090 unless a wave is driven by then"),
         ("limit 60 16000\ntick 5060\n", "9 ", "fault 2 (over-current): the over-run restarted 5,000 ms ago, at 60, when the duty was lowered; it began at 50"),
         ("measure 60 0\nlimit 70 16000\n", "9 ", "  1"),
+        // Lowered in the very ms of its start; and by a call that opens.
+        ("limit 50 16000\nmeasure 60 0\n", "9 ", "over-run ends, 10 ms old"),
+        ("limit 121 16000\n", "8 ", "<< OPENED: 81 ms since the last sound sample (ii); over-run ends, 71 ms old"),
     ] {
         let answer = replayed(&format!("{CHARGE}measure 50 35179\n{calls}"));
         let row = line(&answer, start);

@@ -84,49 +84,33 @@ fn bands_and_strips() {
     }
 }
 
-/// The parts of the over-run's strip, and the lines where it restarts.
+/// What the over-run's strip tells, part by part, and the number of its restarts.
+fn overrun_strip(svg: &str) -> (Vec<&str>, usize) {
+    let parts = svg.lines().filter(|line| line.contains("y=\"600.0\""));
+    let told = parts.filter_map(|part| part.split_once("<title>")?.1.split_once(" unless"));
+    let restarts = svg.lines().filter(|line| line.contains("y1=\"600.0\""));
+    (told.map(|told| told.0).collect(), restarts.count())
+}
+
 #[test]
 fn an_over_run_and_its_restart() {
     let (charge, _) = CHARGE.split_at(CHARGE.find("limit 500").expect("a later limit"));
-    let over = "measure 50 20000\nlimit 60 10000\nlimit 70 6000\nmeasure 80 0\ntick 100\n";
+    let over = "measure 50 20000\nlimit 60 10000\nlimit 70 6000\nmeasure 100 0\ntick 110\n";
     let text = format!("{charge}{over}");
-    for (part, wanted, lines) in [
-        (
-            WHOLE,
-            &[
-                "over-run: fault 2 at 5050",
-                "restarted at 60: fault 2 at 5060",
-                "restarted at 70: fault 2 at 5070",
-            ][..],
-            2,
-        ),
-        (
-            (65, 75),
-            &[
-                "restarted at 60: fault 2 at 5060",
-                "restarted at 70: fault 2 at 5070",
-            ][..],
-            1,
-        ),
-        ((85, 100), &[][..], 0),
+    let [starts, once, twice] = [
+        "over-run: fault 2 at 5050",
+        "restarted at 60: fault 2 at 5060",
+        "restarted at 70: fault 2 at 5070",
+    ];
+    for (part, told, restarts) in [
+        (WHOLE, vec![starts, once, twice], 2),
+        ((65, 75), vec![once, twice], 1),
+        // No call is in it.
+        ((75, 85), vec![twice], 0),
+        ((105, 110), vec![], 0),
     ] {
         let svg = picture(&text, part);
-        let drawn: Vec<&str> = svg
-            .lines()
-            .filter(|line| line.contains("y=\"600.0\"") && line.contains("<title>"))
-            .collect();
-        assert_eq!(drawn.len(), wanted.len(), "{drawn:?}");
-        for (drawn, words) in drawn.iter().zip(wanted) {
-            assert!(
-                drawn.contains(&format!("<title>{words} unless it ends</title>")),
-                "{drawn}"
-            );
-        }
-        let restarts = svg
-            .lines()
-            .filter(|line| line.contains("y1=\"600.0\""))
-            .count();
-        assert_eq!(restarts, lines);
+        assert_eq!(overrun_strip(&svg), (told, restarts), "{part:?}");
     }
 }
 

@@ -43,10 +43,10 @@ fn after_begin() {
 fn an_over_run_that_runs() {
     for (calls, words) in [
         ("", "CLOSED: proven in C at 30 and 40; not opened since begin"),
-        ("measure 50 36000\n", "An over-run runs since 50: fault 2 at 5050 unless it ends."),
+        ("measure 50 36000\n", "An over-run runs since 50: fault 2 at 5050 unless it ends or the duty is lowered."),
         (
             "measure 50 36000\nlimit 60 16000\n",
-            "An over-run runs since 50, restarted at 60, when the duty was lowered: fault 2 at 5060 unless it ends.",
+            "An over-run runs since 50, restarted at 60, when the duty was lowered: fault 2 at 5060 unless it ends or the duty is lowered.",
         ),
     ] {
         let answer = why(&format!("{CHARGE}{calls}"), "60");

@@ -69,21 +69,22 @@ pub const MOST_ON: [&str; 3] = ["200,000 on 1", "200,000 on 2", "200,000 on 3"];
 pub const ABOVE_ON: [&str; 3] = ["200,001 on 1", "200,001 on 2", "200,001 on 3"];
 pub const STARTS_ON: [&str; 3] = ["over-run by 1", "over-run by 2", "over-run by 3"];
 
-/// What a list can make of the duty while an over-run runs (document 02, c).
-pub const RESTARTS: [&str; 10] = [
+/// What a list can make of an over-run by its duty (document 02, c).
+pub const RESTARTS: [&str; 11] = [
     "restarts",
     "lowered at 4,999",
     "lowered at 5,000, latches",
     "lowered again",
     "lowered, none runs",
     "raised, runs on",
-    "same limit, runs on",
-    "lower limit, same duty, runs on",
+    "raised at 4,999, runs on",
+    "same limit at 4,999, runs on",
+    "same duty at 4,999, runs on",
     "4,999 after a restart, runs on",
     "5,000 after a restart, latches",
 ];
 
-/// What only an altered controller can.
+/// What only an altered controller can make of it.
 pub const ALTERED_RESTARTS: [&str; 3] = ["open", "without a limit call", "from steady, runs on"];
 
 /// Counts by group and name.
@@ -255,32 +256,38 @@ impl Tally {
         if let Some(name) = left_running(seen) {
             self.count("restart", name);
         }
-        if seen.outcome.latched[1] && lowers_at_5000(seen) {
+        self.see_due(seen);
+        self.restart = match seen.outcome.restarted {
+            true => after.overrun,
+            false => self.restart.filter(|_| after.overrun.is_some()),
+        };
+    }
+
+    /// The ends of the 5,000 ms of an over-run that was restarted, or is about to be.
+    fn see_due(&mut self, seen: &Seen) {
+        let (age, latches) = (overrun_age(seen), seen.outcome.latched[1]);
+        if age == Some(5_000) && latches && would_lower(seen) {
             self.count("restart", "lowered at 5,000, latches");
         }
-        let start = before.overrun.filter(|_| before.overrun == self.restart);
-        match start.map(|start| seen.call.time() - start) {
-            Some(4_999) if after.overrun == start => {
+        if self.restart.is_none() || seen.before.overrun != self.restart {
+            return;
+        }
+        match age {
+            Some(4_999) if seen.after.overrun == self.restart => {
                 self.count("restart", "4,999 after a restart, runs on")
             }
-            Some(5_000) if seen.outcome.latched[1] => {
-                self.count("restart", "5,000 after a restart, latches")
-            }
+            Some(5_000) if latches => self.count("restart", "5,000 after a restart, latches"),
             _ => {}
-        }
-        if seen.outcome.restarted {
-            self.restart = after.overrun;
         }
     }
 
     /// A restart: how old the over-run was, and what is unlike the usual one.
     fn see_restart(&mut self, seen: &Seen) {
         self.count("restart", "restarts");
-        let start = seen.before.overrun;
-        if start.map(|start| seen.call.time() - start) == Some(4_999) {
+        if overrun_age(seen) == Some(4_999) {
             self.count("restart", "lowered at 4,999");
         }
-        if start.is_some() && start == self.restart {
+        if self.restart.is_some() && seen.before.overrun == self.restart {
             self.count("restart", "lowered again");
         }
         if !seen.before.closed {
@@ -371,29 +378,35 @@ impl Tally {
     }
 }
 
-/// Why a call whose duty is not lowered could have been taken for one that restarts, and was not.
+/// How old the over-run is that the call finds; a begin may come at any time.
+fn overrun_age(seen: &Seen) -> Option<u64> {
+    seen.call.time().checked_sub(seen.before.overrun?)
+}
+
+/// Calls that leave a running over-run as it is, though they change the wave or tell a limit.
 fn left_running(seen: &Seen) -> Option<&'static str> {
     let (before, after) = (&seen.before, &seen.after);
     if before.overrun.is_none() || after.overrun != before.overrun {
         return None;
     }
     let limit = matches!(seen.call, Call::Limit(..));
+    let late = overrun_age(seen) == Some(4_999);
     match (before.wave, after.wave) {
         (from, _) if !driven(from) => Some("from steady, runs on"),
+        (from, to) if from < to && late => Some("raised at 4,999, runs on"),
         (from, to) if from < to => Some("raised, runs on"),
         (from, to) if from > to || !limit => None,
-        _ if after.limit == before.limit => Some("same limit, runs on"),
-        _ if after.limit < before.limit => Some("lower limit, same duty, runs on"),
+        _ if after.limit == before.limit && late => Some("same limit at 4,999, runs on"),
+        _ if after.limit < before.limit && late => Some("same duty at 4,999, runs on"),
         _ => None,
     }
 }
 
-/// A limit call that would have lowered the duty, to an over-run of just 5,000 ms.
-fn lowers_at_5000(seen: &Seen) -> bool {
+/// Would the lesser of rated and limit, as the call leaves them, lower the duty?
+fn would_lower(seen: &Seen) -> bool {
     let (before, after) = (&seen.before, &seen.after);
-    let old = before.overrun.map(|start| seen.call.time() - start) == Some(5_000);
     let duty = duty_for(after.rated.min(after.limit));
-    old && driven(before.wave) && duty.is_ok_and(|duty| duty < before.wave)
+    driven(before.wave) && duty.is_ok_and(|duty| duty < before.wave)
 }
 
 /// The place that alone is true.

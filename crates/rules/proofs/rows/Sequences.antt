@@ -204,7 +204,7 @@ unfoldable pub computed : Lent → List LevelCall → Lent
 unfolding within strictlyBetween fromTo driven bandOf ready isBCD sound proven diodeBad verdictOf atMost allowed orRefusal dutyFor orElse greatestBelow readingOf next ratedAllowed pauseAllowed pauseFor fresh waveAllowed storedAllowed timesAllowed inRange altered lentRefusal windowVerdict verdict paired sameBand inOneBand bothProven bothDiodeBad bothUnsound timeRefusal kindAllowed limitAllowed largest lineAllowed linesAllowed argumentRefusal letter digit faultShown anyFault settledBy soundBy limitBy linesBy withKind faultsBy currentOf announced isOver overrunAt overrunBy ranFor overCurrent unsettles latched isSettled isUAE unventilatedD available noDuty sent waveFor lowersDuty restarts overrunUnder stopUnder cause1 cause2 cause3 cause4 cause5 cause opens pauseOver closes closingsBy
 computed lent calls = lentOn lent calls
 
-lent-append : (lent : Lent) (first rest : List LevelCall) → lentOn lent (first ++ rest) ≡ lentOn (lentOn lent first) rest
+pub lent-append : (lent : Lent) (first rest : List LevelCall) → lentOn lent (first ++ rest) ≡ lentOn (lentOn lent first) rest
 lent-append lent [] rest = refl
 lent-append lent (call ∷ calls) rest = lent-append (next lent (evaluatedOf call)) calls rest
 

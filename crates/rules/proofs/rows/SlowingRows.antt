@@ -1,31 +1,39 @@
 -- A van that is still slowing down (document 02, c): what restarts an over-run, and when fault 2 comes then. 80,000 gives 960, 79,750 to 79,999 give
 -- 959, and 79,749 gives 958.
 use mathlib.Core.Bool.{Bool, true, false}
-use mathlib.Core.List.{List, [], _∷_, map}
-use mathlib.Core.Path.{_≡_, refl, ap}
+use mathlib.Core.List.{List, [], _∷_, _++_, map}
+use mathlib.Core.Path.{_≡_, refl, _∙_, ap}
 use Prim.Native.Nat.{ℕ}
 use Rattle.pilot.specs.Bands.{bandC}
 use Rattle.rules.specs.Answer.{lentAfter}
-use Rattle.rules.specs.Calls.{Event, limit, tick}
+use Rattle.rules.specs.Calls.{Event, limit, measure, tick}
 use Rattle.rules.specs.Lent.{Lent}
+use Rattle.rules.specs.Lines.{onLine1}
 use Rattle.rules.specs.Reply.{letterF}
 use Rattle.rules.specs.State.{Moment, noFaults, empty, setTo}
-use Rattle.rules.proofs.rows.Sequences.{Levels, Sequence, drivenAt, callOf, call, every, row, isSquare, Tells, AllTell, lent-on, tells-by, computed}
+use Rattle.rules.proofs.rows.Sequences.{Levels, LevelCall, Entry, Sequence, drivenAt, callOf, call, every, showing, at80A, charging, isSquare, Tells, AllTell, lentOn, lent-on, lent-append, tells-by, computed}
 use Rattle.rules.proofs.rows.StateRows.{unreachedBy}
 
--- charging under this limit and wave, with an over-run since 100 and a sound sample at 5,060
-abbrev pub over : ℕ → ℕ → Lent
-over current wave = unreachedBy current wave true noFaults (setTo 100) empty 5060
+-- from begin on: charging at 80 A under this limit, an over-run since 100, and sound samples up to 5,060
+abbrev overrunning : ℕ → List LevelCall
+overrunning current = charging 0 current ++ (call 100 (measure (onLine1 200000)) ∷ every 63 80 100 (drivenAt 6000))
+
+-- and so for 63 samples more
+abbrev longer : List LevelCall
+longer = every 63 80 5100 (drivenAt 6000)
+
+abbrev over : ℕ → Event Levels → ℕ → ℕ → ℕ → Bool → ℕ → Entry
+over time event letter digit wave closed kind = showing (onLine1 200000) time event 0 letter digit wave closed kind 1
 
 -- lowered at 4,999 of the over-run: fault 2 at 9,999 of it, not at 9,998
 abbrev pub loweredAt4999 : Sequence
 loweredAt4999 =
     record {
-      start = over 80000 960;
-      first = call 5099 (limit 79999) ∷ every 63 80 5100 (drivenAt 6000);
+      start = at80A 0;
+      first = overrunning 80000 ++ (call 5099 (limit 79999) ∷ longer);
       entries =
-          row 10098 tick 0 bandC 2 959 true 0 7
-          ∷ row 10099 tick 0 letterF 0 0 false 2 7
+          over 10098 tick bandC 2 959 true 0
+          ∷ over 10099 tick letterF 0 0 false 2
           ∷ [];
     }
 
@@ -33,10 +41,10 @@ loweredAt4999 =
 abbrev pub loweredAt5000 : Sequence
 loweredAt5000 =
     record {
-      start = over 80000 960;
-      first = [];
+      start = at80A 0;
+      first = overrunning 80000 ++ [];
       entries =
-          row 5100 (limit 79999) 0 letterF 0 0 false 2 7
+          over 5100 (limit 79999) letterF 0 0 false 2
           ∷ [];
     }
 
@@ -44,23 +52,23 @@ loweredAt5000 =
 abbrev pub loweredTwice : Sequence
 loweredTwice =
     record {
-      start = over 80000 960;
-      first = call 5080 (limit 79999) ∷ call 5099 (limit 79749) ∷ every 63 80 5100 (drivenAt 6000);
+      start = at80A 0;
+      first = overrunning 80000 ++ (call 5080 (limit 79999) ∷ call 5099 (limit 79749) ∷ longer);
       entries =
-          row 10098 tick 0 bandC 2 958 true 0 7
-          ∷ row 10099 tick 0 letterF 0 0 false 2 7
+          over 10098 tick bandC 2 958 true 0
+          ∷ over 10099 tick letterF 0 0 false 2
           ∷ [];
     }
 
 -- fault 2 at 5,000 of it, as without this limit: raised; the same limit once more; lowered by so little that the duty stays
-abbrev pub stillLatches : ℕ → ℕ → ℕ → ℕ → Sequence
-stillLatches before wave after duty =
+abbrev pub stillLatches : ℕ → ℕ → ℕ → Sequence
+stillLatches before after duty =
     record {
-      start = over before wave;
-      first = [];
+      start = at80A 0;
+      first = overrunning before ++ [];
       entries =
-          row 5099 (limit after) 0 bandC 2 duty true 0 7
-          ∷ row 5100 tick 0 letterF 0 0 false 2 7
+          over 5099 (limit after) bandC 2 duty true 0
+          ∷ over 5100 tick letterF 0 0 false 2
           ∷ [];
     }
 
@@ -69,12 +77,12 @@ slowingRows =
     loweredAt4999
     ∷ loweredAt5000
     ∷ loweredTwice
-    ∷ stillLatches 79999 959 80000 960
-    ∷ stillLatches 80000 960 80000 960
-    ∷ stillLatches 79999 959 79750 959
+    ∷ stillLatches 79999 80000 960
+    ∷ stillLatches 80000 80000 960
+    ∷ stillLatches 79999 79750 959
     ∷ []
 
--- the over-run that is kept after a call at 110, with the last one at 100
+-- the over-run that is kept after a call at 110, with the last one at 100: controllers that no list leads to
 abbrev pub keptAfter : ℕ → ℕ → Bool → Moment → Event Levels → Moment
 keptAfter current wave closed overrun event =
     lentAfter (unreachedBy current wave closed noFaults overrun empty 100) (map callOf (call 110 event ∷ [])) .state .overrun
@@ -94,24 +102,54 @@ RestartRow =
     × (keptAfter 80000 1000 true (setTo 50) tick ≡ setTo 50)
     × (keptAfter 80000 960 true (setTo 50) (limit 5999) ≡ empty)
 
-lowered-at-4999 : Tells loweredAt4999
-unfolding computed
-lowered-at-4999 = tells-by loweredAt4999 _ refl refl refl refl
+-- where the calls up to 5,060 lead: computed once for each limit, and the rest of a row from there
+abbrev since100 : ℕ → ℕ → Lent
+since100 current wave =
+    record {
+      state = record {
+        settings = record { rated = 80000; pause = 10000; ventilation = false };
+        limit = current;
+        wave = wave;
+        closed = true;
+        settled = bandC;
+        faults = noFaults;
+        last = 5060;
+        sound = setTo 5060;
+        opening = empty;
+        overrun = setTo 100;
+        stop = empty;
+        previous = record { kept = true; verdict = record { band = bandC; sound = true; proven = true; diodebad = false } };
+        lines = onLine1 200000;
+      };
+      closings = 1;
+    }
 
-lowered-at-5000 : Tells loweredAt5000
+at-960 : lentOn (at80A 0) (overrunning 80000) ≡ since100 80000 960
 unfolding computed
-lowered-at-5000 = tells-by loweredAt5000 _ refl refl refl refl
+at-960 = refl
 
-lowered-twice : Tells loweredTwice
+at-959 : lentOn (at80A 0) (overrunning 79999) ≡ since100 79999 959
 unfolding computed
-lowered-twice = tells-by loweredTwice _ refl refl refl refl
+at-959 = refl
 
-still-latch : Tells (stillLatches 79999 959 80000 960) × Tells (stillLatches 80000 960 80000 960) × Tells (stillLatches 79999 959 79750 959)
+then : (current wave : ℕ) → lentOn (at80A 0) (overrunning current) ≡ since100 current wave → (rest : List LevelCall) (lent : Lent) → lentOn (since100 current wave) rest ≡ lent
+    → lentOn (at80A 0) (overrunning current ++ rest) ≡ lent
+then current wave comes rest lent is = lent-append (at80A 0) (overrunning current) rest ∙ ap (λ l. lentOn l rest) comes ∙ is
+
+lowered : Tells loweredAt4999 × Tells loweredAt5000 × Tells loweredTwice
+unfolding computed
+lowered = (
+  tells-by loweredAt4999 _ refl refl (then 80000 960 at-960 (call 5099 (limit 79999) ∷ longer) _ refl) refl,
+  tells-by loweredAt5000 _ refl refl (then 80000 960 at-960 [] _ refl) refl,
+  tells-by loweredTwice _ refl refl (then 80000 960 at-960 (call 5080 (limit 79999) ∷ call 5099 (limit 79749) ∷ longer) _ refl) refl,
+)
+
+still-latch : Tells (stillLatches 79999 80000 960) × Tells (stillLatches 80000 80000 960) × Tells (stillLatches 79999 79750 959)
 unfolding computed
 still-latch = (
-  tells-by (stillLatches 79999 959 80000 960) _ refl refl refl refl,
-  tells-by (stillLatches 80000 960 80000 960) _ refl refl refl refl,
-  tells-by (stillLatches 79999 959 79750 959) _ refl refl refl refl,
+  tells-by (stillLatches 79999 80000 960) _ refl refl (then 79999 959 at-959 [] _ refl) refl,
+  tells-by (stillLatches 80000 80000 960) _ refl refl (then 80000 960 at-960 [] _ refl) refl,
+  tells-by (stillLatches 79999 79750 959) _ refl refl (then 79999 959 at-959 [] _ refl) refl,
 )
 
 kept : (current wave : ℕ) (closed : Bool) (overrun : Moment) (event : Event Levels) → isSquare event ≡ true
@@ -135,4 +173,4 @@ restart-row = (
 )
 
 pub slowing-rows : AllTell slowingRows
-slowing-rows = (lowered-at-4999, (lowered-at-5000, (lowered-twice, (still-latch .0, (still-latch .1, (still-latch .2, tt))))))
+slowing-rows = (lowered .0, (lowered .1, (lowered .2, (still-latch .0, (still-latch .1, (still-latch .2, tt))))))

@@ -2,10 +2,11 @@
 
 use super::scale::Scale;
 use super::svg::{Anchor, Svg};
-use super::track::{Overrun, Run, Track};
+use super::track::{Run, Track};
 use super::{LEFT, RIGHT, STRIPS};
-use crate::causes::fault_2_at;
+use crate::causes::{fault_2_at, unless};
 use crate::table::state;
+use crate::turn::Overrun;
 use crate::words::faults;
 
 const HEIGHT: f64 = 18.0;
@@ -79,13 +80,12 @@ pub fn draw(svg: &mut Svg, track: &Track, scale: &Scale) {
 
 /// An over-run and when fault 2 comes; paler where a lowered duty has restarted it.
 fn run_of(overrun: Overrun) -> Option<Part> {
-    let due = fault_2_at(overrun.start);
-    let short = due.trim_end_matches(" unless it ends");
-    match overrun.start == overrun.first {
-        true => Part::new(&format!("over-run: {due}"), short, "#ffb77c"),
-        false => Part::new(
+    let (due, short) = (unless(overrun.start), fault_2_at(overrun.start));
+    match overrun.restarted() {
+        false => Part::new(&format!("over-run: {due}"), &short, "#ffb77c"),
+        true => Part::new(
             &format!("restarted at {}: {due}", overrun.start),
-            short,
+            &short,
             "#ffdfb6",
         ),
     }
@@ -95,7 +95,7 @@ fn run_of(overrun: Overrun) -> Option<Part> {
 fn restarts(svg: &mut Svg, overruns: &[Span<Option<Overrun>>]) {
     let top = STRIPS + 2.0 * APART;
     for span in overruns.iter().filter(|span| span.from > LEFT) {
-        if span.value.is_some_and(|run| run.start != run.first) {
+        if span.value.is_some_and(|overrun| overrun.restarted()) {
             svg.line((span.from, top), (span.from, top + HEIGHT), "frame");
         }
     }

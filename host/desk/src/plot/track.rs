@@ -2,7 +2,7 @@
 
 use crate::causes::notes;
 use crate::input::Log;
-use crate::turn::{Differs, Post, Turn};
+use crate::turn::{Differs, Overrun, Post, Turn};
 use chuldariin::{raw, reading, Milliamps, Reading};
 use chuldariin_log::Call;
 use chuldariin_model::{State, SOUND_AGE};
@@ -34,22 +34,6 @@ pub struct Levels {
     pub low: i32,
     /// The sample before it is of the same list, and no longer ago than a sound one may be with the contactor closed.
     pub joined: bool,
-}
-
-/// An over-run: its start, and when it first began, on the post's clock.
-#[derive(Clone, Copy, Debug, PartialEq, Eq)]
-pub struct Overrun {
-    pub start: u64,
-    pub first: u64,
-}
-
-impl Overrun {
-    fn after(turn: &Turn) -> Option<Overrun> {
-        Some(Overrun {
-            start: turn.after.overrun?,
-            first: turn.still_over_since()?,
-        })
-    }
 }
 
 /// The time of the axis: the log's own, that runs on where a later list starts at an earlier time.
@@ -142,7 +126,7 @@ impl Track {
         }
         let now = self.clock.now;
         if now < part.0 && turn.accepted() {
-            self.held = Some((turn.after, turn.reply, Overrun::after(turn)));
+            self.held = Some((turn.after, turn.reply, turn.overrun_after()));
         }
         // Before the first begin there is no time.
         if !(part.0..=part.1).contains(&now) || !(turn.begun || turn.accepted()) {
@@ -191,7 +175,7 @@ impl Track {
             self.three_lines |= matches!(turn.call, Call::MeasureLines(..));
         }
         self.values(at, &turn.after, &turn.reply);
-        run(&mut self.overrun, at, Overrun::after(turn));
+        run(&mut self.overrun, at, turn.overrun_after());
         self.mark(at, turn);
     }
 
