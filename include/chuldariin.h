@@ -40,8 +40,8 @@
  *     call every 20 ms that is above 100 whatever the window. Windows of 4 ms, a call every 5 ms and
  *     10 ms of travel make 100.
  *   - Whoever makes the limit calls waits: 3 s after a wave was withdrawn in state B (sequence 9.2), and
- *     5 s between two changes of the duty (sequence 6). The controller delays no limit, and each lowered
- *     duty restarts the 5 s of fault 2: lowered again and again within 5 s, it does not come.
+ *     5 s between two changes of the duty (sequence 6). The controller delays no limit. Each lowered duty
+ *     restarts the 5 s of fault 2, so fault 2 waits for as long as the duty is lowered more often than that.
  *   - Signals of digital communication (148 kHz and more, table A2.1) are filtered before the converter.
  *   - It decides when to call clear. A latched fault, 1 and 2 too, stays when the van is unplugged.
  *

@@ -11,13 +11,14 @@ use Rattle.rules.specs.Accepted.{closesAt}
 use Rattle.rules.specs.Answer.{begun, acceptLent, next}
 use Rattle.rules.specs.Begin.{Begin, beginRefusal}
 use Rattle.rules.specs.Calls.{Call, EvaluatedCall, inTurn}
-use Rattle.rules.specs.Claim.{Demand3}
+use Rattle.rules.specs.Claim.{Trace, Demand3}
 use Rattle.rules.specs.Lent.{Lent, mostClosings, altered, lentRefusal}
 use Rattle.rules.specs.Refusals.{refusal}
 use Rattle.rules.specs.Replay.{isAccepted, step, replay}
 use Rattle.rules.specs.State.{State}
 use Rattle.rules.specs.Step5Closing.{closingsBy}
 use Rattle.rules.specs.Traces.{before, callAt, traceOf, lentAt, replyBefore, answered}
+use Rattle.rules.proofs.Lawful.{Lawful}
 use Rattle.rules.proofs.Lists.{list-in-range}
 use Rattle.rules.proofs.Ranges.{range-whole}
 use Rattle.rules.proofs.Replayed.{memoryOf, Follows, lawful, demand3-told}
@@ -66,17 +67,20 @@ module _ (begin : Begin) (calls : List Call) (accepted : beginRefusal begin ≡ 
   by-replay : Follows begin calls (λ k. before begin calls k .closed) tally
   by-replay = record { told-is = λ k below. refl; carried-none = refl; carried-next = λ k below. refl }
 
+  -- the trace of the replay's own contactor and closings
+  abbrev replayed : Trace
+  replayed = traceOf begin calls (λ k. before begin calls k .closed) tally
+
+  laws : Lawful replayed (memoryOf begin calls)
+  laws = lawful begin calls _ tally by-replay accepted
+
   tally-most : (k : ℕ) → k ≤ length calls → tally k ≤ mostClosings
-  tally-most k within =
-      let laws = lawful begin calls _ tally by-replay accepted in
-      rw (counts (traceOf begin calls (λ k. before begin calls k .closed) tally) (memoryOf begin calls) laws k within)
-      (at-most (traceOf begin calls (λ k. before begin calls k .closed) tally) (memoryOf begin calls) laws k within)
+  tally-most k within = rw (counts replayed (memoryOf begin calls) laws k within) (at-most replayed (memoryOf begin calls) laws k within)
 
   -- the clock: the times of accepted calls do not fall
   pub times-in-order : (i k : ℕ) → isAccepted (before begin calls i) (callAt begin calls i) ≡ true → isAccepted (before begin calls k) (callAt begin calls k) ≡ true
       → i < k → k < length calls → callAt begin calls i .time ≤ callAt begin calls k .time
-  times-in-order =
-      in-order (traceOf begin calls (λ k. before begin calls k .closed) tally) (memoryOf begin calls) (lawful begin calls _ tally by-replay accepted)
+  times-in-order = in-order replayed (memoryOf begin calls) laws
 
   -- no list leads to a controller that refusal 1 names
   pub tally-not-altered : (k : ℕ) → k ≤ length calls → altered (record { state = before begin calls k; closings = tally k }) ≡ false

@@ -20,7 +20,7 @@ use Rattle.rules.proofs.Acceptance.{on-time}
 use Rattle.rules.proofs.Booleans.{clash, or-true}
 use Rattle.rules.proofs.Offering.{driven-offers}
 use Rattle.rules.proofs.Overruns.{restarted, JudgedBy, AboveBound, afterStep1, ByEvent, left, starts, ends, by-event, same-lines, stays-closed, restartsAt, latches, latches-when}
-use Rattle.rules.proofs.OverrunsAt.{time, began, judged-by, judged-at, lowers-at, next-run}
+use Rattle.rules.proofs.OverrunsAt.{callTime, overrunStart, judged-by, judged-at, lowers-at, next-run}
 use Rattle.rules.proofs.OverrunSince.{Since, since, not-later}
 use Rattle.rules.proofs.Reaching.{list-reaches}
 use Rattle.rules.proofs.Stepped.{accepted-is, refused-is}
@@ -32,10 +32,10 @@ two-any faults is = rw is (or-true (faults .diode))
 
 module _ (begin : Begin) (calls : List Call) (begins : beginRefusal begin ≡ 0) where
   abbrev at : ℕ → ℕ
-  at = time begin calls
+  at = callTime begin calls
 
-  abbrev start : ℕ → ℕ
-  start = began begin calls
+  abbrev began : ℕ → ℕ
+  began = overrunStart begin calls
 
   -- fault 2 comes only with such a call
   module _ (k : ℕ) (two : LatchesTwo begin calls k) where
@@ -55,7 +55,7 @@ module _ (begin : Begin) (calls : List Call) (begins : beginRefusal begin ≡ 0)
           let wave = sym (ap (λ x. driven (x .wave)) (accepted-is begin calls k (two .below) into)) ∙ lowers .still-driven in
           clash (two-any (accept found latching .faults) two-is) (driven-offers found latching wave .0)
 
-      from-start : (j : ℕ) → Since begin calls begins j k → start k + 5000 ≤ at k → ((lines : Lines) → JudgedBy found latching lines → AboveBound found latching lines)
+      from-start : (j : ℕ) → Since begin calls begins j k → began k + 5000 ≤ at k → ((lines : Lines) → JudgedBy found latching lines → AboveBound found latching lines)
           → OverTooLong begin calls k
       from-start j run old over =
           record {
@@ -98,7 +98,7 @@ module _ (begin : Begin) (calls : List Call) (begins : beginRefusal begin ≡ 0)
     -- the over-run before call n began 5,000 or more before call k
     record Old (n : ℕ) : Type 0 where
       runs : before begin calls n .overrun .set ≡ true
-      old : start n + 5000 ≤ at k
+      old : began n + 5000 ≤ at k
 
     lowered-old : (n : ℕ) → n ≤ k → Lowers begin calls n → at n + 5000 ≤ at k
     lowered-old n until lowers = go (decLt (at k) (at n + 5000))

@@ -15,7 +15,7 @@ use Rattle.rules.specs.Lent.{storedAllowed}
 use Rattle.rules.specs.Lines.{Lines}
 use Rattle.rules.specs.OverCurrent.{Over, Within, Lowers}
 use Rattle.rules.specs.Replay.{isAccepted, replay}
-use Rattle.rules.specs.State.{State, Moment, empty, setTo}
+use Rattle.rules.specs.State.{State, empty, setTo}
 use Rattle.rules.specs.Step3Wave.{restarts}
 use Rattle.rules.specs.Traces.{before, callAt}
 use Rattle.rules.proofs.Acceptance.{on-time}
@@ -24,21 +24,21 @@ use Rattle.rules.proofs.LentReplies.{times-in-order}
 use Rattle.rules.proofs.Lists.{list-in-range}
 use Rattle.rules.proofs.Opened.{none-restarts}
 use Rattle.rules.proofs.Overruns.{restarts-when, restarted, JudgedBy, AboveBound, afterStep1, ByEvent, left, starts, ends, by-event, restartsAt, not-ended}
-use Rattle.rules.proofs.OverrunsAt.{time, began, judged-by, judged-at, lowers-to, next-run}
+use Rattle.rules.proofs.OverrunsAt.{callTime, overrunStart, judged-by, judged-at, lowers-to, next-run}
 use Rattle.rules.proofs.Reaching.{list-reaches}
 use Rattle.rules.proofs.Stepped.{accepted-is, refused-is}
 
 module _ (begin : Begin) (calls : List Call) (begins : beginRefusal begin ≡ 0) where
   abbrev at : ℕ → ℕ
-  at = time begin calls
+  at = callTime begin calls
 
-  abbrev start : ℕ → ℕ
-  start = began begin calls
+  abbrev began : ℕ → ℕ
+  began = overrunStart begin calls
 
   -- a running over-run began not later than the last accepted call
-  pub not-later : (k : ℕ) → before begin calls k .overrun .set ≡ true → start k ≤ before begin calls k .last
+  pub not-later : (k : ℕ) → before begin calls k .overrun .set ≡ true → began k ≤ before begin calls k .last
   unfolding storedAllowed
-  not-later k runs = leb-true (start k) (before begin calls k .last) (rw runs at (list-in-range begin (take k calls) begins .overrun))
+  not-later k runs = leb-true (began k) (before begin calls k .last) (rw runs at (list-in-range begin (take k calls) begins .overrun))
 
   -- an over-run runs before call n: it began with measure j, or restarted with the last call since that lowered the duty
   pub record Since (j n : ℕ) : Type 0 where
@@ -47,8 +47,8 @@ module _ (begin : Begin) (calls : List Call) (begins : beginRefusal begin ≡ 0)
     pub none-within : (i : ℕ) → j < i → i < n → Within begin calls i → ⊥
     pub closed-since : (i : ℕ) → j < i → i ≤ n → before begin calls i .closed ≡ true
     pub driven-since : (i : ℕ) → j < i → i ≤ n → driven (before begin calls i .wave) ≡ true
-    pub not-sooner : at j ≤ start n
-    pub lowered : (i : ℕ) → i < n → Lowers begin calls i → at i ≤ start n
+    pub not-sooner : at j ≤ began n
+    pub lowered : (i : ℕ) → i < n → Lowers begin calls i → at i ≤ began n
 
   module _ (n : ℕ) (below : n < length calls) (set : before begin calls (suc n) .overrun .set ≡ true) where
     abbrev s : State
@@ -64,7 +64,7 @@ module _ (begin : Begin) (calls : List Call) (begins : beginRefusal begin ≡ 0)
     driven-after = list-reaches begin (take (suc n) calls) .overrun-driven set
 
     -- call n leaves it running
-    longer : (j : ℕ) → Since j n → (Within begin calls n → ⊥) → start n ≤ start (suc n) → (Lowers begin calls n → at n ≤ start (suc n)) → Since j (suc n)
+    longer : (j : ℕ) → Since j n → (Within begin calls n → ⊥) → began n ≤ began (suc n) → (Lowers begin calls n → at n ≤ began (suc n)) → Since j (suc n)
     longer j known not-within later lowers =
         record {
           earlier = omega (arith, known .earlier);
@@ -94,7 +94,7 @@ module _ (begin : Begin) (calls : List Call) (begins : beginRefusal begin ≡ 0)
             let is : i ≡ suc n = omega arith in
             rw is driven-after
 
-        low : (i : ℕ) → i < suc n → Lowers begin calls i → Dec (i < n) → at i ≤ start (suc n)
+        low : (i : ℕ) → i < suc n → Lowers begin calls i → Dec (i < n) → at i ≤ began (suc n)
         low i until lowers-it (yes before) = omega (arith, known .lowered i before lowers-it)
         low i until lowers-it (no later) =
             let is : i ≡ n = omega arith in
@@ -107,7 +107,7 @@ module _ (begin : Begin) (calls : List Call) (begins : beginRefusal begin ≡ 0)
           (not-ended s call (sym (ap (λ x. x .overrun .set) (accepted-is begin calls n below into)) ∙ set)) driven-after
 
       -- call n starts it
-      newest : Over begin calls n → start (suc n) ≡ at n → Since n (suc n)
+      newest : Over begin calls n → began (suc n) ≡ at n → Since n (suc n)
       newest over now =
           record {
             earlier = omega arith;
@@ -123,7 +123,7 @@ module _ (begin : Begin) (calls : List Call) (begins : beginRefusal begin ≡ 0)
             lowered = λ i until lowers. low i until lowers (decLt i n);
           }
         where
-          low : (i : ℕ) → i < suc n → Lowers begin calls i → Dec (i < n) → at i ≤ start (suc n)
+          low : (i : ℕ) → i < suc n → Lowers begin calls i → Dec (i < n) → at i ≤ began (suc n)
           low i until lowers (yes earlier) = rw now (times-in-order begin calls begins i n (lowers .accepted) into earlier below)
           low i until lowers (no later) =
               let is : i ≡ n = omega arith in
@@ -140,12 +140,12 @@ module _ (begin : Begin) (calls : List Call) (begins : beginRefusal begin ≡ 0)
           by : (b : Bool) → restartsAt s call ≡ b → before begin calls (suc n) .overrun ≡ cond b (setTo (call .time)) (afterStep1 s call) → (j : ℕ) × Since j (suc n)
           by true p e =
               let ran = sym (ap (λ m. m .set) same) ∙ restarted (s .wave) (accept s call .wave) (afterStep1 s call) p .0 in
-              let now : start (suc n) ≡ at n = ap (λ m. m .time) e in
+              let now : began (suc n) ≡ at n = ap (λ m. m .time) e in
               let known = earlier ran in
               (known .0, longer (known .0) (known .1) not-within (rw now (omega (arith, not-later n ran, on-time s call into .0))) (λ lowers. rw now (omega arith)))
           by false p e =
               let ran = sym (ap (λ m. m .set) (e ∙ same)) ∙ set in
-              let kept : start (suc n) ≡ start n = ap (λ m. m .time) (e ∙ same) in
+              let kept : began (suc n) ≡ began n = ap (λ m. m .time) (e ∙ same) in
               let known = earlier ran in
               let runs = ap (λ m. m .set) same ∙ ran in (
                 known .0,
@@ -157,14 +157,17 @@ module _ (begin : Begin) (calls : List Call) (begins : beginRefusal begin ≡ 0)
       one-more : (s .overrun .set ≡ true → (j : ℕ) × Since j n) → (j : ℕ) × Since j (suc n)
       one-more earlier = go (by-event s call)
         where
-          now : (m : Moment) → afterStep1 s call ≡ m → (b : Bool) → restartsAt s call ≡ b → m ≡ setTo (call .time) → start (suc n) ≡ at n
-          now m same true p is = ap (λ x. x .time) (next ∙ ap (λ b. cond b (setTo (call .time)) (afterStep1 s call)) p)
-          now m same false p is = ap (λ x. x .time) (next ∙ ap (λ b. cond b (setTo (call .time)) (afterStep1 s call)) p ∙ same ∙ is)
+          either : (b : Bool) → cond b (setTo (call .time)) (setTo (call .time)) ≡ setTo (call .time)
+          either true = refl
+          either false = refl
+
+          now : afterStep1 s call ≡ setTo (call .time) → began (suc n) ≡ at n
+          now same = ap (λ m. m .time) (next ∙ ap (λ m. cond (restartsAt s call) (setTo (call .time)) m) same ∙ either (restartsAt s call))
 
           go : ByEvent s call → (j : ℕ) × Since j (suc n)
           go (left same judged) = goes-on same judged earlier
           go (starts lines by over unset same) =
-              (n, newest (lines, judged-at begin calls n below into lines by, omega (arith, over)) (now (setTo (call .time)) same (restartsAt s call) refl refl))
+              (n, newest (lines, judged-at begin calls n below into lines by, omega (arith, over)) (now same))
           go (ends lines by within same) =
               clash set (ap (λ m. m .set) (next ∙ ap (λ m. cond (restarts (s .wave) (accept s call .wave) m) (setTo (call .time)) m) same)
               ∙ none-restarts (s .wave) (accept s call .wave) (call .time) empty refl)
@@ -180,5 +183,5 @@ module _ (begin : Begin) (calls : List Call) (begins : beginRefusal begin ≡ 0)
       go false out earlier =
           let same = ap (λ x. x .overrun) (refused-is begin calls n within out) in
           let known = earlier (sym (ap (λ m. m .set) same) ∙ set) in
-          let kept : start (suc n) ≡ start n = ap (λ m. m .time) same in
+          let kept : began (suc n) ≡ began n = ap (λ m. m .time) same in
           (known .0, longer n within set (known .0) (known .1) (λ judged. clash (judged .1 .measures .accepted) out) (rw kept (omega arith)) (λ lowers. clash (lowers .accepted) out))

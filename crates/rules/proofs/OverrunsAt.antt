@@ -32,11 +32,11 @@ as-given tick lines e = clash (ap isMeasure e) refl
 
 module _ (begin : Begin) (calls : List Call) where
   -- the time of call k, and when the over-run began that it finds
-  abbrev pub time : ℕ → ℕ
-  time k = callAt begin calls k .time
+  abbrev pub callTime : ℕ → ℕ
+  callTime k = callAt begin calls k .time
 
-  abbrev pub began : ℕ → ℕ
-  began k = before begin calls k .overrun .time
+  abbrev pub overrunStart : ℕ → ℕ
+  overrunStart k = before begin calls k .overrun .time
 
   module _ (k : ℕ) where
     abbrev s : State

@@ -200,7 +200,7 @@ fn overrun(turn: &Turn, notes: &mut Vec<Note>) {
             "over-run starts: {} is above {}; {}",
             judged_current(call, &turn.after),
             allowed(&turn.before),
-            unless(start)
+            fault_2_due(start)
         ),
         (Some(_), Some(start), _) if turn.before.wave != turn.after.wave => {
             another_duty(turn, start)
@@ -222,7 +222,7 @@ fn another_duty(turn: &Turn, start: u64) -> String {
         age(turn),
         duty(turn.before.wave),
         duty(turn.after.wave),
-        unless(start)
+        fault_2_due(start)
     )
 }
 
@@ -244,7 +244,7 @@ pub fn fault_2_at(start: u64) -> String {
 }
 
 /// The same, and what puts it off.
-pub fn unless(start: u64) -> String {
+pub fn fault_2_due(start: u64) -> String {
     format!(
         "{} unless it ends or the duty is lowered",
         fault_2_at(start)

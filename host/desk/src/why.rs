@@ -1,6 +1,6 @@
 //! The command `why`: which closing conditions hold at a time, and which do not.
 
-use crate::causes::{closed, notes, unless, Kind};
+use crate::causes::{closed, fault_2_due, notes, Kind};
 use crate::conditions::{conditions, waits_for};
 use crate::input::Log;
 use crate::paint::{Colour, Paint};
@@ -117,7 +117,7 @@ fn running(last: &Turn, out: &mut impl Write) -> io::Result<()> {
             overrun.start
         ),
     };
-    let due = unless(overrun.start);
+    let due = fault_2_due(overrun.start);
     writeln!(
         out,
         "An over-run runs since {}{restarted}: {due}.",

@@ -17,6 +17,13 @@ fn changes(log: &str) -> (String, Vec<String>) {
     (answer, numbers)
 }
 
+/// What the line with this start tells after a charge and these calls.
+fn ends_with(calls: &str, start: &str, note: &str) {
+    let answer = replayed(&format!("{CHARGE}{calls}"));
+    let row = line(&answer, start);
+    assert!(row.ends_with(note), "{row}");
+}
+
 #[test]
 fn rare_calls() {
     for (calls, start, note) in [
@@ -33,9 +40,7 @@ fn rare_calls() {
         ("measure 50 300000 1 200001\n", "7 ", "REFUSED 7: 300,000 mA on line 1, 200,001 mA on line 3: a measured current is at most 200,000 mA"),
         ("window 50 1 2\n", "7 ", "REFUSED 4: 2 readings, where 256 to 1,024 are allowed"),
     ] {
-        let answer = replayed(&format!("{CHARGE}{calls}"));
-        let row = line(&answer, start);
-        assert!(row.ends_with(note), "{row}");
+        ends_with(calls, start, note);
     }
     let answer = replayed(&format!(
         "{PLUGGED}sample 30 9000 9000\nsample 40 9000 9000\n"
@@ -62,9 +67,7 @@ fn an_over_run_under_another_duty() {
         ("limit 50 16000\nmeasure 60 0\n", "9 ", "over-run ends, 10 ms old"),
         ("limit 121 16000\n", "8 ", "<< OPENED: 81 ms since the last sound sample (ii); over-run ends, 71 ms old"),
     ] {
-        let answer = replayed(&format!("{CHARGE}measure 50 35179\n{calls}"));
-        let row = line(&answer, start);
-        assert!(row.ends_with(note), "{row}");
+        ends_with(&format!("measure 50 35179\n{calls}"), start, note);
     }
 }
 

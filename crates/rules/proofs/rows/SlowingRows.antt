@@ -22,6 +22,7 @@ overrunning current = charging 0 current ++ (call 100 (measure (onLine1 200000))
 abbrev longer : List LevelCall
 longer = every 63 80 5100 (drivenAt 6000)
 
+-- a call with such a van, and the reply to it
 abbrev over : ℕ → Event Levels → ℕ → ℕ → ℕ → Bool → ℕ → Entry
 over time event letter digit wave closed kind = showing (onLine1 200000) time event 0 letter digit wave closed kind 1
 
@@ -94,6 +95,9 @@ RestartRow =
     × (keptAfter 79999 960 true (setTo 50) tick ≡ setTo 110)
     × (keptAfter 79999 960 true (setTo 50) (drivenAt 6000) ≡ setTo 110)
     × (keptAfter 79999 960 false (setTo 50) tick ≡ setTo 110)
+    -- a measure is judged before, by the wave that it finds: it ends the over-run, or leaves it to restart
+    × (keptAfter 79999 960 true (setTo 50) (measure (onLine1 88000)) ≡ empty)
+    × (keptAfter 79999 960 true (setTo 50) (measure (onLine1 88001)) ≡ setTo 110)
     -- none runs, and none starts
     × (keptAfter 79999 960 true empty tick ≡ empty)
     -- raised, the same, from steady, and to steady
@@ -165,6 +169,8 @@ restart-row = (
   kept 79999 960 true (setTo 50) tick refl,
   kept 79999 960 true (setTo 50) (drivenAt 6000) refl,
   kept 79999 960 false (setTo 50) tick refl,
+  kept 79999 960 true (setTo 50) (measure (onLine1 88000)) refl,
+  kept 79999 960 true (setTo 50) (measure (onLine1 88001)) refl,
   kept 79999 960 true empty tick refl,
   kept 80000 959 true (setTo 50) tick refl,
   kept 80000 960 true (setTo 50) tick refl,

@@ -4,7 +4,7 @@ use super::scale::Scale;
 use super::svg::{Anchor, Svg};
 use super::track::{Run, Track};
 use super::{LEFT, RIGHT, STRIPS};
-use crate::causes::{fault_2_at, unless};
+use crate::causes::{fault_2_at, fault_2_due};
 use crate::table::state;
 use crate::turn::Overrun;
 use crate::words::faults;
@@ -80,7 +80,7 @@ pub fn draw(svg: &mut Svg, track: &Track, scale: &Scale) {
 
 /// An over-run and when fault 2 comes; paler where a lowered duty has restarted it.
 fn run_of(overrun: Overrun) -> Option<Part> {
-    let (due, short) = (unless(overrun.start), fault_2_at(overrun.start));
+    let (due, short) = (fault_2_due(overrun.start), fault_2_at(overrun.start));
     match overrun.restarted() {
         false => Part::new(&format!("over-run: {due}"), &short, "#ffb77c"),
         true => Part::new(
@@ -93,7 +93,7 @@ fn run_of(overrun: Overrun) -> Option<Part> {
 
 /// A line where an over-run restarts; one that goes on at the start restarted before it.
 fn restarts(svg: &mut Svg, overruns: &[Span<Option<Overrun>>]) {
-    let top = STRIPS + 2.0 * APART;
+    let top = top(2);
     for span in overruns.iter().filter(|span| span.from > LEFT) {
         if span.value.is_some_and(|overrun| overrun.restarted()) {
             svg.line((span.from, top), (span.from, top + HEIGHT), "frame");
@@ -120,6 +120,11 @@ fn spans<T: Copy>(runs: &[Run<T>], track: &Track, scale: &Scale) -> Vec<Span<T>>
     runs.iter().zip(ends).map(span).collect()
 }
 
+/// The top of a strip.
+fn top(row: usize) -> f64 {
+    STRIPS + row as f64 * APART
+}
+
 /// One strip: each value is a part of it, or nothing to show.
 fn strip<T>(
     svg: &mut Svg,
@@ -128,7 +133,7 @@ fn strip<T>(
     spans: &[Span<T>],
     shown: impl Fn(&T) -> Option<Part>,
 ) {
-    let top = STRIPS + row as f64 * APART;
+    let top = top(row);
     svg.text(8.0, top + 13.0, 12.0, Anchor::Start, "title", name);
     let mut drawn = f64::MIN;
     for span in spans {
