@@ -5,7 +5,7 @@
  * then the controller is as it was. Nothing is allocated, nothing is kept elsewhere, nothing blocks. A
  * sample makes n * n comparisons of n readings at the most, of eight instructions each: 8.4 million
  * instructions for 1,024 readings of which none is supported, 0.5 million for 256. The other calls take
- * about 700 instructions, a measure up to 1,300.
+ * 700 to 760 instructions.
  *
  *     struct chuldariin_controller post = {0};
  *     struct chuldariin_reply r = chuldariin_begin(&post, now_ms, 32000, 0, false);
@@ -281,7 +281,7 @@ struct chuldariin_reply chuldariin_tick(struct chuldariin_controller *c, uint64_
 
 /* ---- Without a controller. ---- */
 
-/* What a van reads from a duty in tenths of a percent. Refused: 9. */
+/* What a van reads from a duty in tenths of a percent, by the rows of table A3.9. Refused: 9. */
 struct chuldariin_reading_reply chuldariin_reading(uint32_t duty);
 
 /* The greatest duty, 100 to 960, that announces no more than the available current. Refused: 10. */

@@ -5,7 +5,7 @@
 
 #include <stdio.h>
 
-enum { LENGTH = 1024, AREA = 65536, LIMIT = 5000 };
+enum { LENGTH = 1024, AREA = 65536, LIMIT = 1000 };
 
 typedef struct chuldariin_controller controller;
 

@@ -14,7 +14,7 @@ use Rattle.duty.specs.declared.Reading.{Reading}
 use Rattle.duty.specs.declared.Reading.the-variants.{NoCharging, DigitalOnly, Current, AboveScale}
 use Rattle.duty.specs.declared.Greatest.{Greatest}
 use Rattle.duty.specs.declared.Greatest.the-variants.{Duty, TooLow}
-use Rattle.duty.proofs.EachBelow.{tells}
+use Rattle.duty.proofs.Values.{same-at}
 use Rattle.duty.proofs.GreatestBelow.{is-greatest, none-greatest}
 use Rattle.duty.proofs.Ranges.{reads-lower, reads-upper, above-scale, allowed-by, denied-by, denied-under}
 
@@ -118,9 +118,9 @@ isRead (current milliamps) = true
 isRead (refused number) = false
 
 -- every duty of the scale is read: one test, computed over all of them
-on-scale : (d : ℕ) → d < 1001 → isRead (readingOf d) ≡ true
+on-scale : (d : ℕ) → d ≤ 1000 → isRead (readingOf d) ≡ true
 unfolding isRead readingOf fromTo
-on-scale d h = tells (λ (k : ℕ). isRead (readingOf k)) 1001 refl d h
+on-scale d h = same-at (λ (k : ℕ). isRead (readingOf k)) (λ k. true) 0 1000 refl d (omega arith) h
 
 -- the number of a refusal
 numberOf : Reads → ℕ

@@ -1,6 +1,5 @@
 -- The reading of a duty (document 01, "Duty and current"). A duty is in tenths of a percent, a current in milliamps.
 use mathlib.Core.Bool.{cond}
-use lib.Dec.{eqb}
 use Prim.Native.Nat.{ℕ, _*_, _-_}
 use Rattle.units.specs.Range.{fromTo}
 
@@ -22,7 +21,3 @@ readingOf d =
     (cond (fromTo 851 960 d) (current (250 * (d - 640)))
     (cond (fromTo 961 970 d) (current 80000)
     (cond (fromTo 971 1000 d) noCharging (refused 9))))))))
-
--- what an entry of the table stands for: 0 and 1 are codes, and any other number is a current
-unfoldable pub entryReads : ℕ → Reads
-entryReads entry = cond (eqb entry 0) noCharging (cond (eqb entry 1) digitalOnly (current entry))

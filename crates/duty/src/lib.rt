@@ -1,10 +1,7 @@
 // Duty and current: what a duty tells a van, and the greatest duty for an available current.
-mod table;
-
-use table::READINGS;
 use units::Milliamps;
 ghost use mathlib.Core.Path.{_≡_};
-ghost use Rattle.duty.specs.Reading.{readingOf, entryReads};
+ghost use Rattle.duty.specs.Reading.{readingOf};
 ghost use Rattle.duty.specs.DutyFor.{dutyFor};
 ghost use Rattle.duty.specs.Answers.{asReads, asSends};
 
@@ -24,29 +21,32 @@ pub enum Greatest {
     TooLow,
 }
 
-// What an entry of the table stands for.
-fn decoded(entry: u32) -> Reading
-    ensures { λ r. ⌜ asReads r ≡ entryReads entry ⌝ }
-{
-    match entry {
-        0 => Reading::NoCharging,
-        1 => Reading::DigitalOnly,
-        _ => Reading::Current(Milliamps(entry)),
-    }
-}
-
-// The reading of a duty, which is in tenths of a percent.
+// What a van reads from a duty, which is in tenths of a percent: the rows of the standard's table A3.9, in its order.
 pub fn reading_of(duty: u32) -> Reading
     ensures { λ r. ⌜ asReads r ≡ readingOf duty ⌝ }
 {
-    if 1000 < duty {
-        return Reading::AboveScale;
+    match duty {
+        // Less than 3 %.
+        0..=29 => Reading::NoCharging,
+        // 3 % to 7 %.
+        30..=70 => Reading::DigitalOnly,
+        // Above 7 %, less than 8 %.
+        71..=79 => Reading::NoCharging,
+        // 8 % to less than 10 %: 6 A.
+        80..=99 => Reading::Current(Milliamps(6000)),
+        // 10 % to 85 %: 0.6 A for each percent.
+        100..=850 => Reading::Current(Milliamps(60 * duty)),
+        // Above 85 %, up to 96 %: 2.5 A for each percent above 64.
+        851..=960 => Reading::Current(Milliamps(250 * (duty - 640))),
+        // Above 96 %, up to 97 %: 80 A.
+        961..=970 => Reading::Current(Milliamps(80000)),
+        // Above 97 %.
+        971..=1000 => Reading::NoCharging,
+        _ => Reading::AboveScale,
     }
-    let entry = READINGS[duty as usize];
-    decoded(entry)
 }
 
-// The greatest duty of a driven wave that tells no more than the available current.
+// The greatest duty of a driven wave that tells no more than the available current: the formulas of the standard's table A3.8, rounded down.
 pub fn duty_for(available: Milliamps) -> Greatest
     ensures { λ r. ⌜ asSends r ≡ dutyFor (available .0) ⌝ }
 {
@@ -54,12 +54,15 @@ pub fn duty_for(available: Milliamps) -> Greatest
     if current < 6000 {
         return Greatest::TooLow;
     }
+    // 10 % to 85 %: a percent for each 0.6 A.
     if current < 51000 {
         return Greatest::Duty(current / 60);
     }
+    // 85 %: the next duty tells 52.75 A.
     if current < 52750 {
         return Greatest::Duty(850);
     }
+    // Above 85 %, up to 96 %: a percent for each 2.5 A, above 64.
     if current < 80000 {
         return Greatest::Duty(current / 250 + 640);
     }

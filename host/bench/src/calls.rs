@@ -137,8 +137,7 @@ fn print(kinds: &[Kind], on_a_copy: bool, effort: Effort) {
 
 const HEAD: &str = "\
 2. Calls without a window, median ns of a call
-   charging: closed, wave driven, so that a measure is judged; idle: open, no van.
-   measure is apart: it reads a table that is rebuilt at each call.";
+   charging: closed, wave driven, so that a measure is judged; idle: open, no van.";
 
 pub fn run(effort: Effort) {
     println!("{HEAD}\n");

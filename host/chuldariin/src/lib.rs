@@ -192,7 +192,7 @@ impl Post {
     }
 }
 
-/// What a van reads from a duty, in tenths of a percent.
+/// What a van reads from a duty, in tenths of a percent, by the rows of table A3.9.
 ///
 /// ```
 /// use chuldariin::{reading, Milliamps, Reading, Refusal};

@@ -79,6 +79,40 @@ fn every_duty_reads_as_in_the_model() {
     assert_eq!(tally.of("reading kind", "a current"), 891);
 }
 
+/// The table of readings that the ranges took the place of, as the proofs keep it: 0 no charging,
+/// 1 digital only, any other number a current.
+const TABLE: &str = include_str!("../../../crates/duty/proofs/Table.antt");
+
+fn tabled() -> Vec<u32> {
+    let (_, list) = TABLE.split_once("entries =").expect("the table's list");
+    let entries = list.split('∷').map(str::trim);
+    let numbers = entries.take_while(|entry| *entry != "[]");
+    numbers.map(|entry| entry.parse().expect(entry)).collect()
+}
+
+#[test]
+fn every_duty_reads_as_the_table_gave() {
+    let table = tabled();
+    assert_eq!(table.len(), 1_001);
+    for (duty, entry) in (0..).zip(table) {
+        let (kind, current) = match entry {
+            0 => (0, 0),
+            1 => (1, 0),
+            current => (2, current),
+        };
+        let given = raw::ReadingReply {
+            refusal: 0,
+            kind,
+            current,
+        };
+        assert_eq!(
+            archive_reading(duty),
+            given,
+            "archive, table: reading of {duty}"
+        );
+    }
+}
+
 #[test]
 fn every_current_has_the_greatest_duty() {
     let mut tally = Tally::default();
