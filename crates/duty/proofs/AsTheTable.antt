@@ -1,4 +1,4 @@
--- The reply for every duty is the one that the table gave (document 02, d): one test, computed over all of 0 to 1000, and refusal 9 past them.
+-- The reply for every duty is the one that the old table gave (document 02, d): one test, computed over all of 0 to 1000, and refusal 9 past them.
 use mathlib.Core.Path.{_≡_, refl, sym, _∙_, ap}
 use mathlib.Core.Bool.{cond}
 use mathlib.Core.List.{map}
@@ -15,12 +15,13 @@ use Rattle.duty.specs.declared.Reading.{Reading}
 use Rattle.duty.proofs.Values.{values, value-at}
 use Rattle.duty.proofs.Table.{entries}
 use Rattle.duty.proofs.Ranges.{above-scale}
+use Rattle.duty.proofs.reading_of.Reads.{Post}
 
 -- what an entry stood for
 entryReads : ℕ → Reads
 entryReads entry = cond (eqb entry 0) noCharging (cond (eqb entry 1) digitalOnly (current entry))
 
--- what the table gave: what the duty's entry stood for, and refusal 9 past the last entry
+-- what the old table gave: what the duty's entry stood for, and refusal 9 past the last entry
 pub tabled : ℕ → Reads
 tabled d = getD (map entryReads entries) d (refused 9)
 
@@ -45,6 +46,7 @@ reads-as-tabled d = go (decLt d 1001)
         let end : length (map entryReads entries) ≤ d = omega (arith, as-many) in
         above-scale d (omega arith) ∙ sym (List·getD-eq-default (map entryReads entries) (refused 9) end)
 
--- an answer that meets the contract of reading_of is the one that the table gave
-pub as-the-table : (duty : ℕ) (r : Reading) → asReads r ≡ readingOf duty → asReads r ≡ tabled duty
+-- an answer that meets the contract of reading_of (`Post`, which is made from src/; the duty stands there at entry and at exit) is the one that the old
+-- table gave
+pub as-the-table : (duty : ℕ) (r : Reading) → Post tt (duty, tt) r (duty, tt) → asReads r ≡ tabled duty
 as-the-table duty r meets = meets ∙ reads-as-tabled duty

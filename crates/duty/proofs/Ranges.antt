@@ -1,4 +1,4 @@
--- The reading of a duty in each row of the table, and which duties are allowed for a current.
+-- The reading of a duty in each row of table A3.9, and which duties are allowed for a current.
 use mathlib.Core.Path.{_≡_, refl}
 use mathlib.Core.Bool.{true, false}
 use Prim.Native.Nat.{ℕ, _*_, _-_, _≤_, _<_}
@@ -10,7 +10,7 @@ use Rattle.duty.specs.Reading.{noCharging, digitalOnly, current, refused
 use Rattle.duty.specs.DutyFor.{atMost, allowed}
 use Rattle.duty.proofs.Values.{same-at}
 
--- each row by one computed test over its duties
+-- each row by one computed test over its duties; the numbers in the names are percent
 module _ (d : ℕ) where
   pub reads-under-3 : d ≤ 29 → readingOf d ≡ noCharging
   unfolding readingOf fromTo

@@ -1,5 +1,5 @@
--- The table of readings that the ranges took the place of (document 02, d), as it stood: its 1,001 entries, from duty 0 on. They are the data of one
--- test (AsTheTable) and of nothing else.
+-- The old table of readings, which the ranges took the place of (document 02, d): its 1,001 entries as they stood, from duty 0 on. No code reads them:
+-- they are data of the test in AsTheTable, and of host/trials/tests/duties.rs.
 use mathlib.Core.List.{List, [], _∷_}
 use Prim.Native.Nat.{ℕ}
 

@@ -1,4 +1,4 @@
--- The values of a function at numbers in a row, as a list: one equation of two such lists, computed, tells of every one of these numbers.
+-- The values of a function at consecutive numbers, as a list: one equation of two such lists, computed, tells of every one of these numbers.
 use mathlib.Core.Path.{_≡_, ap, sym, _∙_}
 use mathlib.Core.List.{List, [], _∷_}
 use Prim.Native.Nat.{ℕ, zero, suc, _+_, _-_, _≤_, _<_}
@@ -20,7 +20,7 @@ module _ {A : Type 0} where
   -- two functions with the same values from one number to another have the same value at each of these
   pub same-at : (f g : ℕ → A) (from to : ℕ) → values f from (suc to - from) ≡ values g from (suc to - from)
       → (k : ℕ) → from ≤ k → k ≤ to → f k ≡ g k
-  same-at f g from to same k h l = sym (at-k f) ∙ ap (λ l. getD l (k - from) (f k)) same ∙ at-k g
+  same-at f g from to same k h l = sym (at-k f) ∙ ap (λ list. getD list (k - from) (f k)) same ∙ at-k g
     where
       at-k : (e : ℕ → A) → getD (values e from (suc to - from)) (k - from) (f k) ≡ e k
       at-k e = value-at e from (suc to - from) (k - from) (f k) (omega arith) ∙ ap e (omega arith)

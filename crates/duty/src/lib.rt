@@ -1,4 +1,5 @@
-// Duty and current: what a duty tells a van, and the greatest duty for an available current.
+// Duty and current: what a duty tells a van, and the greatest duty for an available current. The tables named here are those of IEC 61851-1 Annex A
+// (draft for Edition 3).
 use units::Milliamps;
 ghost use mathlib.Core.Path.{_≡_};
 ghost use Rattle.duty.specs.Reading.{readingOf};
@@ -21,7 +22,7 @@ pub enum Greatest {
     TooLow,
 }
 
-// What a van reads from a duty, which is in tenths of a percent: the rows of the standard's table A3.9, in its order.
+// What a van reads from a duty, which is in tenths of a percent: the rows of table A3.9, in its order.
 pub fn reading_of(duty: u32) -> Reading
     ensures { λ r. ⌜ asReads r ≡ readingOf duty ⌝ }
 {
@@ -46,7 +47,7 @@ pub fn reading_of(duty: u32) -> Reading
     }
 }
 
-// The greatest duty of a driven wave that tells no more than the available current: the formulas of the standard's table A3.8, rounded down.
+// The greatest duty of a driven wave that tells no more than the available current: the two formulas of table A3.8, rounded down, and 85 % between them.
 pub fn duty_for(available: Milliamps) -> Greatest
     ensures { λ r. ⌜ asSends r ≡ dutyFor (available .0) ⌝ }
 {
@@ -54,17 +55,18 @@ pub fn duty_for(available: Milliamps) -> Greatest
     if current < 6000 {
         return Greatest::TooLow;
     }
-    // 10 % to 85 %: a percent for each 0.6 A.
+    // 10 % to less than 85 %: a percent for each 0.6 A.
     if current < 51000 {
         return Greatest::Duty(current / 60);
     }
-    // 85 %: the next duty tells 52.75 A.
+    // Up to 52.75 A, which the next duty tells, 85 %: here the upper formula gives less, which is outside of its range.
     if current < 52750 {
         return Greatest::Duty(850);
     }
-    // Above 85 %, up to 96 %: a percent for each 2.5 A, above 64.
+    // Above 85 %, less than 96 %: 64 %, and a percent more for each 2.5 A.
     if current < 80000 {
         return Greatest::Duty(current / 250 + 640);
     }
+    // 96 % from 80 A on.
     Greatest::Duty(960)
 }

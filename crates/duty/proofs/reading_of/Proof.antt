@@ -1,4 +1,4 @@
--- Each arm is one row of the table.
+-- Each arm but the last is one row of table A3.9.
 use mathlib.Core.Path.{sym, ap, _∙_}
 use native.Mathlib.Omega.{arith}
 use borrow.Author.Needs.{needs}
