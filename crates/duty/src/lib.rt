@@ -59,7 +59,7 @@ pub fn duty_for(available: Milliamps) -> Greatest
     if current < 51000 {
         return Greatest::Duty(current / 60);
     }
-    // Up to 52.75 A, which the next duty tells, 85 %: here the upper formula gives less, which is outside of its range.
+    // 85 % up to 52.75 A, which the next duty tells: the upper formula gives less here, outside of its own range.
     if current < 52750 {
         return Greatest::Duty(850);
     }
