@@ -8,7 +8,7 @@
  * controller take about 700 instructions, a measure up to 760.
  *
  *     struct chuldariin_controller post = {0};
- *     struct chuldariin_reply r = chuldariin_begin(&post, now_ms, 32000, 0, false);
+ *     struct chuldariin_reply r = chuldariin_begin(&post, now_ms, 32000, 0, false, false);
  *     if (r.refusal != CHULDARIIN_ACCEPTED)
  *         stop_and_report(r.refusal);             // a refused begin tells no wave and no contactor
  *
@@ -64,14 +64,14 @@ extern "C" {
 #define CHULDARIIN_ALIGNOF(type) _Alignof(type)
 #endif
 
-/* Why a call is refused. Of several reasons 3 goes first, then 2, then 1, and then upwards. */
+/* Why a call is refused. Of several reasons 3 goes first, then 2, then 1, and then upwards, but 12 before 11. */
 enum {
     /* The call was accepted. */
     CHULDARIIN_ACCEPTED = 0,
     /* begin: rated is not 6,000 to 80,000 mA, or pause is neither 0 nor 1,000 to 60,000 ms.
      * Other calls: the controller is cleared memory that nothing has begun in, or something wrote
-     * into it. Out of range is one of wave, limit, rated and pause, a stored time is after that of
-     * the last accepted call, or there are more than 1,000,000,001 closings. Open the contactor,
+     * into it. Out of range is one of wave, limit, grant, rated and pause, a stored time is after that
+     * of the last accepted call, or there are more than 1,000,000,001 closings. Open the contactor,
      * begin again, and look for the stray write. */
     CHULDARIIN_REFUSED_SETTINGS = 1,
     /* The time is before that of begin, or of the last call that was accepted. Use a clock that never
@@ -93,14 +93,18 @@ enum {
     /* chuldariin_reading: the duty is above 1000. */
     CHULDARIIN_REFUSED_DUTY = 9,
     /* chuldariin_duty: the current is below 6,000 mA, which no duty announces. */
-    CHULDARIIN_REFUSED_TOO_LOW = 10
+    CHULDARIIN_REFUSED_TOO_LOW = 10,
+    /* A grant is above 80,000 mA. */
+    CHULDARIIN_REFUSED_GRANT = 11,
+    /* A link call to a post that was begun plain. Begin it digital, or leave the link out. */
+    CHULDARIIN_REFUSED_PLAIN = 12
 };
 
 /* The faults. */
 enum {
     CHULDARIIN_FAULT_NONE = 0,
     CHULDARIIN_FAULT_DIODE = 1,        /* the van's pilot diode is missing */
-    CHULDARIIN_FAULT_OVERCURRENT = 2,  /* more than 1.1 times the announced current for 5 s, see measure_lines */
+    CHULDARIIN_FAULT_OVERCURRENT = 2,  /* more than 1.1 times the allowed current for 5 s, see measure_lines */
     CHULDARIIN_FAULT_RESIDUAL = 3,     /* residual current */
     CHULDARIIN_FAULT_WELDED = 4,       /* welded contact */
     CHULDARIIN_FAULT_TEMPERATURE = 5   /* over-temperature */
@@ -120,6 +124,7 @@ struct chuldariin_settings {
     uint64_t pause;   /* least time between an opening and the next closing, ms */
     uint32_t rated;   /* rated current of the post, mA */
     bool ventilation; /* whether the post has ventilation */
+    bool digital;     /* the mark: whether the post is digital, else it is plain */
 };
 
 /* A time that may be empty. */
@@ -161,21 +166,22 @@ struct chuldariin_lines {
 struct chuldariin_controller {
     struct chuldariin_settings settings; /* what begin was given, with pause 0 as 10,000 */
     uint32_t limit;                      /* the depot's limit, mA */
+    uint32_t grant;                      /* the current granted by link, mA */
     uint32_t wave;                       /* the wave command, tenths of a percent */
     bool closed;                         /* the contactor command */
     uint8_t settled;                     /* the settled state, 'A' to 'E'; any other number is U */
     struct chuldariin_faults faults;     /* the latched faults */
+    struct chuldariin_previous previous; /* the previous sample */
     uint64_t last;                       /* time of the last accepted call, or of begin, ms */
     struct chuldariin_moment sound;      /* the last sound sample */
     struct chuldariin_moment opening;    /* the last opening */
     struct chuldariin_moment overrun;    /* the start of the over-run, or its last restart */
     struct chuldariin_moment stop;       /* the start of the stop */
-    struct chuldariin_previous previous; /* the previous sample */
     uint32_t closings;                   /* how often the contactor has closed since begin */
     struct chuldariin_lines lines;       /* the currents of the last accepted measure */
 };
 
-/* What a call tells. Beside refusals 1 to 8 stands the rest as the controller has it; a refused
+/* What a call tells. Beside refusals 1 to 8, 11 and 12 stands the rest as the controller has it; a refused
  * begin has zeros there.
  * It has 28 bytes, so a call returns it in memory, at an address that the caller passes first and C
  * hides. The 16 bytes of a version without `lines` came back in two registers: a host that was compiled
@@ -185,7 +191,8 @@ struct chuldariin_reply {
     uint8_t refusal;   /* 0 if accepted, else CHULDARIIN_REFUSED_... */
     uint8_t letter;    /* the state: 'A' to 'E', 'U' unsettled, 'F' a fault is latched */
     uint8_t digit;     /* 2 under a square wave, 1 under a steady one; U, E and F have none: 0 */
-    uint32_t wave;     /* 0 steady -12 V, 1000 steady +12 V, 100 to 960 a duty, tenths of a percent */
+    uint32_t wave;     /* 0 steady -12 V, 1000 steady +12 V, else a duty, tenths of a percent: 100 to 960,
+                        * and 50 in a digital post */
     bool closed;       /* the contactor command */
     uint8_t fault;     /* 0, or a latched fault */
     uint32_t closings; /* how often the contactor has closed since begin */
@@ -210,19 +217,21 @@ CHULDARIIN_ASSERT(sizeof(bool) == 1);
 CHULDARIIN_ASSERT(sizeof(struct chuldariin_settings) == 16);
 CHULDARIIN_ASSERT(offsetof(struct chuldariin_settings, rated) == 8);
 CHULDARIIN_ASSERT(offsetof(struct chuldariin_settings, ventilation) == 12);
+CHULDARIIN_ASSERT(offsetof(struct chuldariin_settings, digital) == 13);
 CHULDARIIN_ASSERT(sizeof(struct chuldariin_controller) == 128);
 CHULDARIIN_ASSERT(CHULDARIIN_ALIGNOF(struct chuldariin_controller) == 8);
 CHULDARIIN_ASSERT(offsetof(struct chuldariin_controller, limit) == 16);
-CHULDARIIN_ASSERT(offsetof(struct chuldariin_controller, wave) == 20);
-CHULDARIIN_ASSERT(offsetof(struct chuldariin_controller, closed) == 24);
-CHULDARIIN_ASSERT(offsetof(struct chuldariin_controller, settled) == 25);
-CHULDARIIN_ASSERT(offsetof(struct chuldariin_controller, faults) == 26);
-CHULDARIIN_ASSERT(offsetof(struct chuldariin_controller, last) == 32);
-CHULDARIIN_ASSERT(offsetof(struct chuldariin_controller, sound) == 40);
-CHULDARIIN_ASSERT(offsetof(struct chuldariin_controller, opening) == 56);
-CHULDARIIN_ASSERT(offsetof(struct chuldariin_controller, overrun) == 72);
-CHULDARIIN_ASSERT(offsetof(struct chuldariin_controller, stop) == 88);
-CHULDARIIN_ASSERT(offsetof(struct chuldariin_controller, previous) == 104);
+CHULDARIIN_ASSERT(offsetof(struct chuldariin_controller, grant) == 20);
+CHULDARIIN_ASSERT(offsetof(struct chuldariin_controller, wave) == 24);
+CHULDARIIN_ASSERT(offsetof(struct chuldariin_controller, closed) == 28);
+CHULDARIIN_ASSERT(offsetof(struct chuldariin_controller, settled) == 29);
+CHULDARIIN_ASSERT(offsetof(struct chuldariin_controller, faults) == 30);
+CHULDARIIN_ASSERT(offsetof(struct chuldariin_controller, previous) == 35);
+CHULDARIIN_ASSERT(offsetof(struct chuldariin_controller, last) == 40);
+CHULDARIIN_ASSERT(offsetof(struct chuldariin_controller, sound) == 48);
+CHULDARIIN_ASSERT(offsetof(struct chuldariin_controller, opening) == 64);
+CHULDARIIN_ASSERT(offsetof(struct chuldariin_controller, overrun) == 80);
+CHULDARIIN_ASSERT(offsetof(struct chuldariin_controller, stop) == 96);
 CHULDARIIN_ASSERT(offsetof(struct chuldariin_controller, closings) == 112);
 CHULDARIIN_ASSERT(offsetof(struct chuldariin_controller, lines) == 116);
 CHULDARIIN_ASSERT(sizeof(struct chuldariin_lines) == 12);
@@ -240,10 +249,11 @@ CHULDARIIN_ASSERT(sizeof(struct chuldariin_duty_reply) == 8);
 
 /* Starts afresh: nothing settled, wave 1000, contactor open, no fault, closings 0, no current on any
  * line, and no pause to wait for. So it opens a closed contactor, and drops what was latched. The limit
- * is 0: nothing charges before a limit call. rated: 6,000 to 80,000 mA. pause: 1,000 to 60,000 ms, or 0
- * for 10,000. Refused: 3, 1. */
+ * is 0, and so is the grant: nothing charges before a limit call. rated: 6,000 to 80,000 mA. pause: 1,000
+ * to 60,000 ms, or 0 for 10,000. digital: the mark. A digital post drives 5 % where a plain one drives a
+ * duty, and charges by the current that was agreed over the link (chuldariin_link). Refused: 3, 1. */
 struct chuldariin_reply chuldariin_begin(struct chuldariin_controller *c, uint64_t time, uint32_t rated,
-                                         uint64_t pause, bool ventilation);
+                                         uint64_t pause, bool ventilation, bool digital);
 
 /* A window of 256 to 1,024 readings of the pilot line, -15,000 to 15,000 mV, only read. It is judged
  * under the wave that was commanded before this call, so all its readings come after that command. It
@@ -254,14 +264,16 @@ struct chuldariin_reply chuldariin_sample(struct chuldariin_controller *c, uint6
 
 /* The depot's limit, 0 to 80,000 mA. It acts in this call: nothing is delayed. Below 6,000 no wave is
  * driven, and a closed contactor opens once that has lasted 3 s. A limit that lowers the duty gives the
- * van 5 s to follow: see measure_lines. Refused: 3, 2, 1, 7. */
+ * van 5 s to follow: see measure_lines. In a digital post the wave tells the van of no limit: agree less
+ * over the link first. Refused: 3, 2, 1, 7. */
 struct chuldariin_reply chuldariin_limit(struct chuldariin_controller *c, uint64_t time, uint32_t current);
 
 /* The current measured on each line, 0 to 200,000 mA; a line that the van does not use has 0. All three
  * are kept and shown, whatever the contactor and the wave; with the contactor closed and the wave driven
- * the largest is judged: more than 1.1 times the announced current for 5 s is fault 2. A duty that is
- * lowered within these 5 s restarts them; a raised one, or the same again, does not. If any of the three
- * is above 200,000 none is kept. Refused: 3, 2, 1, 7. */
+ * the largest is judged: more than 1.1 times the allowed current for 5 s is fault 2. A plain post allows
+ * what its duty announces, a digital one the least of grant, rated and limit. A duty that is lowered
+ * within these 5 s restarts them; a raised one, or the same again, does not, and a digital post lowers
+ * none. If any of the three is above 200,000 none is kept. Refused: 3, 2, 1, 7. */
 struct chuldariin_reply chuldariin_measure_lines(struct chuldariin_controller *c, uint64_t time, uint32_t line1,
                                                  uint32_t line2, uint32_t line3);
 
@@ -269,6 +281,14 @@ struct chuldariin_reply chuldariin_measure_lines(struct chuldariin_controller *c
  * current on line 1, and 0 on the others. Not once for each line, and not beside the call above: each
  * measure replaces all three currents, and can end an over-run on another line. Refused: 3, 2, 1, 7. */
 struct chuldariin_reply chuldariin_measure(struct chuldariin_controller *c, uint64_t time, uint32_t current);
+
+/* The current that was agreed with the van over the digital link, 0 to 80,000 mA, for a digital post. It
+ * closes with a grant of 6,000 or more. Closed with less it tells wave 1000, and opens once that has
+ * lasted 3 s; give the grant back before, and it charges on. With A settled every call, this one too, sets
+ * the grant to 0 and is accepted: tell the grant after a reply has told B (or C or D). Nothing else takes
+ * it away but begin, not a fault, an opening or a clear: a host that loses the link calls this with 0.
+ * Refused: 3, 2, 1, 12, 11. */
+struct chuldariin_reply chuldariin_link(struct chuldariin_controller *c, uint64_t time, uint32_t granted);
 
 /* A fault from outside: CHULDARIIN_FAULT_RESIDUAL, _WELDED or _TEMPERATURE. Refused: 3, 2, 1, 8. */
 struct chuldariin_reply chuldariin_fault(struct chuldariin_controller *c, uint64_t time, uint32_t kind);

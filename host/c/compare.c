@@ -40,6 +40,15 @@ static void show(const struct timed_call *one, const struct timed_call *other) {
            others[middle] / ones[middle]);
 }
 
+/* A call that the version before did not have. */
+static void show_new(const struct timed_call *call) {
+    double times[ROUNDS];
+    for (int i = 0; i < ROUNDS; i++)
+        times[i] = nanoseconds(call);
+    qsort(times, ROUNDS, sizeof *times, by_size);
+    printf("%-36s %8s %8.1f %6s     %8s %8.1f\n", call->name, "-", times[0], "", "-", times[ROUNDS / 2]);
+}
+
 int main(void) {
     printf("%-36s %8s %8s %6s     %8s %8s %6s\n", "ns of a call: the least, the median", "before", "after", "ratio", "before", "after", "ratio");
     for (const struct timed_call *call = after; call->name; call++) {
@@ -49,7 +58,7 @@ int main(void) {
         if (same->name)
             show(same, call);
         else
-            printf("%-36s only after\n", call->name);
+            show_new(call);
     }
     return 0;
 }

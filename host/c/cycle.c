@@ -34,8 +34,8 @@ static bool says(reply r, char letter, int digit, uint32_t wave, bool closed, in
 /* Field by field: padding has no value. */
 static bool same(const controller *a, const controller *b) {
     return a->settings.rated == b->settings.rated && a->settings.pause == b->settings.pause
-           && a->settings.ventilation == b->settings.ventilation && a->limit == b->limit && a->wave == b->wave
-           && a->closed == b->closed && a->settled == b->settled
+           && a->settings.ventilation == b->settings.ventilation && a->settings.digital == b->settings.digital
+           && a->limit == b->limit && a->grant == b->grant && a->wave == b->wave && a->closed == b->closed && a->settled == b->settled
            && memcmp(&a->faults, &b->faults, sizeof a->faults) == 0 && a->last == b->last
            && a->sound.set == b->sound.set && a->sound.time == b->sound.time && a->opening.set == b->opening.set
            && a->opening.time == b->opening.time && a->overrun.set == b->overrun.set
@@ -47,7 +47,7 @@ static bool same(const controller *a, const controller *b) {
 /* A ready van with a sound diode; the contactor closes at 40. pause: as begin is given it. */
 static controller charging_with(uint64_t pause) {
     controller c = {0};
-    EXPECT(says(chuldariin_begin(&c, 0, 32000, pause, false), 'U', 0, 1000, false, 0, 0));
+    EXPECT(says(chuldariin_begin(&c, 0, 32000, pause, false, false), 'U', 0, 1000, false, 0, 0));
     EXPECT(says(chuldariin_limit(&c, 0, 32000), 'U', 0, 1000, false, 0, 0));
     EXPECT(says(sample(&c, 10, 9000, 9000), 'U', 0, 1000, false, 0, 0));
     EXPECT(says(sample(&c, 20, 9000, 9000), 'B', 2, 533, false, 0, 0));
@@ -153,12 +153,12 @@ static void over_current_on_each_line(void) {
 /* The three of the last accepted measure, whatever the contactor and the wave; a measure with one current has it on line 1. */
 static void lines_shown(void) {
     controller c = {0};
-    EXPECT(shows(chuldariin_begin(&c, 0, 32000, 0, false).lines, 0, 0, 0));
+    EXPECT(shows(chuldariin_begin(&c, 0, 32000, 0, false, false).lines, 0, 0, 0));
     EXPECT(shows(chuldariin_measure_lines(&c, 0, 1, 2, 3).lines, 1, 2, 3));
     EXPECT(shows(chuldariin_limit(&c, 0, 32000).lines, 1, 2, 3));
     EXPECT(shows(chuldariin_measure(&c, 0, 4).lines, 4, 0, 0) && shows(c.lines, 4, 0, 0));
-    EXPECT(shows(chuldariin_begin(&c, 0, 5999, 0, false).lines, 0, 0, 0) && shows(c.lines, 4, 0, 0));
-    EXPECT(shows(chuldariin_begin(&c, 0, 32000, 0, false).lines, 0, 0, 0) && shows(c.lines, 0, 0, 0));
+    EXPECT(shows(chuldariin_begin(&c, 0, 5999, 0, false, false).lines, 0, 0, 0) && shows(c.lines, 4, 0, 0));
+    EXPECT(shows(chuldariin_begin(&c, 0, 32000, 0, false, false).lines, 0, 0, 0) && shows(c.lines, 0, 0, 0));
     c.lines.line3 = 200001;
     EXPECT(shows(chuldariin_tick(&c, 0).lines, 0, 0, 200001));
 }
@@ -171,6 +171,58 @@ static void refused(reply r, int number, const controller *before, const control
     EXPECT(r.letter == before->settled && r.digit == 2 && r.fault == 0);
     EXPECT(r.wave == before->wave && r.closed == before->closed && r.closings == before->closings);
     EXPECT(shows(r.lines, before->lines.line1, before->lines.line2, before->lines.line3));
+}
+
+/* A digital post with a ready van: 5 %, and open until it has its grant. */
+static controller linked(uint32_t granted) {
+    controller c = {0};
+    EXPECT(says(chuldariin_begin(&c, 0, 32000, 0, false, true), 'U', 0, 1000, false, 0, 0));
+    EXPECT(says(chuldariin_limit(&c, 0, 32000), 'U', 0, 1000, false, 0, 0));
+    EXPECT(says(sample(&c, 10, 9000, 9000), 'U', 0, 1000, false, 0, 0));
+    EXPECT(says(sample(&c, 20, 9000, 9000), 'B', 2, 50, false, 0, 0));
+    EXPECT(says(chuldariin_link(&c, 25, granted), 'B', 2, 50, false, 0, 0) && c.grant == granted);
+    EXPECT(says(sample(&c, 30, 6000, -12000), 'B', 2, 50, false, 0, 0));
+    bool closes = granted >= 6000;
+    EXPECT(says(sample(&c, 40, 6000, -12000), 'C', 2, 50, closes, 0, closes));
+    return c;
+}
+
+/* The grant is taken back at 50: open at 3,050, and 5 % again in the next call. */
+static void grant_taken_back(void) {
+    controller c = linked(16000);
+    EXPECT(says(chuldariin_link(&c, 50, 5999), 'C', 1, 1000, true, 0, 1) && c.stop.set);
+    for (uint64_t t = 60; t < 3050; t += 10)
+        EXPECT(sample(&c, t, 6000, 6000).closed);
+    EXPECT(says(sample(&c, 3050, 6000, 6000), 'C', 1, 1000, false, 0, 1));
+    EXPECT(says(chuldariin_tick(&c, 3051), 'C', 2, 50, false, 0, 1));
+}
+
+/* More than a tenth above the grant, to the milliamp. */
+static void over_the_grant(void) {
+    controller c = linked(16059);
+    EXPECT(chuldariin_measure(&c, 50, 17664).closed && !c.overrun.set);
+    EXPECT(chuldariin_measure(&c, 50, 17665).closed && c.overrun.set);
+}
+
+/* A settled: the grant is 0, and a link call leaves it so. */
+static void unplugged(void) {
+    controller c = linked(16000);
+    sample(&c, 50, 12000, -12000);
+    EXPECT(says(sample(&c, 60, 12000, 12000), 'A', 1, 1000, false, 0, 1) && c.grant == 0);
+    EXPECT(says(chuldariin_link(&c, 70, 16000), 'A', 1, 1000, false, 0, 1) && c.grant == 0);
+}
+
+static void digital_posts(void) {
+    linked(5999);
+    linked(6000);
+    grant_taken_back();
+    over_the_grant();
+    unplugged();
+    controller c = linked(16000);
+    const controller before = c;
+    refused(chuldariin_link(&c, 50, 80001), CHULDARIIN_REFUSED_GRANT, &before, &c);
+    c.wave = 533;
+    EXPECT(chuldariin_link(&c, 50, 80001).refusal == CHULDARIIN_REFUSED_SETTINGS);
 }
 
 static void each_refusal(void) {
@@ -195,13 +247,14 @@ static void each_refusal(void) {
     refused(chuldariin_measure_lines(&c, 50, 1, 200001, 2), CHULDARIIN_REFUSED_CURRENT, &before, &c);
     refused(chuldariin_measure_lines(&c, 50, 1, 2, 200001), CHULDARIIN_REFUSED_CURRENT, &before, &c);
     refused(chuldariin_fault(&c, 50, 2), CHULDARIIN_REFUSED_KIND, &before, &c);
+    refused(chuldariin_link(&c, 50, 80001), CHULDARIIN_REFUSED_PLAIN, &before, &c);
 
     c.wave = 961;
     const controller altered = c;
     reply of_altered = chuldariin_clear(&c, 50);
     EXPECT(of_altered.refusal == CHULDARIIN_REFUSED_SETTINGS && of_altered.wave == 961 && same(&altered, &c));
     c = before;
-    reply r = chuldariin_begin(&c, 50, 5999, 0, false);
+    reply r = chuldariin_begin(&c, 50, 5999, 0, false, false);
     EXPECT(r.refusal == CHULDARIIN_REFUSED_SETTINGS && r.letter == 0 && r.wave == 0 && r.closings == 0 && same(&before, &c));
 
     EXPECT(chuldariin_reading(1001).refusal == CHULDARIIN_REFUSED_DUTY);
@@ -231,6 +284,7 @@ int main(void) {
     over_current_on_each_line();
     still_slowing_down();
     lines_shown();
+    digital_posts();
     each_refusal();
     before_any_begin();
     duties();

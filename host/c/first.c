@@ -23,7 +23,7 @@ static struct chuldariin_reply sample(struct chuldariin_controller *post, uint64
 int main(void) {
     struct chuldariin_controller post = {0};
     /* pause 0 stands for 10 s */
-    show(0, "begin, rated 32 A", chuldariin_begin(&post, 0, 32000, 0, false));
+    show(0, "begin, rated 32 A", chuldariin_begin(&post, 0, 32000, 0, false, false));
     show(0, "limit 32 A", chuldariin_limit(&post, 0, 32000));
     show(10, "sample 9 V", sample(&post, 10, 9000, 9000));
     show(20, "sample 9 V", sample(&post, 20, 9000, 9000));

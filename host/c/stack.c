@@ -20,11 +20,12 @@ __asm__(".text\nempty_call: mov %rdi, %rax\nempty_duty: ret\n");
 
 static void nothing(void) { refusal = empty_call(&post, 50).refusal; }
 static void nothing_small(void) { refusal = empty_duty(32000).refusal; }
-static void begin(void) { refusal = chuldariin_begin(&post, 50, 32000, 0, false).refusal; }
+static void begin(void) { refusal = chuldariin_begin(&post, 50, 32000, 0, false, false).refusal; }
 static void sample(void) { refusal = chuldariin_sample(&post, 50, readings, LENGTH).refusal; }
 static void limit(void) { refusal = chuldariin_limit(&post, 50, 16000).refusal; }
 static void measure(void) { refusal = chuldariin_measure(&post, 50, 36000).refusal; }
 static void measure_lines(void) { refusal = chuldariin_measure_lines(&post, 50, 16000, 36000, 12000).refusal; }
+static void link_call(void) { refusal = chuldariin_link(&post, 50, 16000).refusal; }
 static void fault(void) { refusal = chuldariin_fault(&post, 50, CHULDARIIN_FAULT_RESIDUAL).refusal; }
 static void clear(void) { refusal = chuldariin_clear(&post, 50).refusal; }
 static void tick(void) { refusal = chuldariin_tick(&post, 50).refusal; }
@@ -39,7 +40,7 @@ static void levels(int32_t high, int32_t low) {
 /* A van that is plugged in, and after so many ready samples: the second of them closes the contactor. */
 static controller after(uint64_t ready_samples) {
     controller c = {0};
-    chuldariin_begin(&c, 0, 32000, 0, false);
+    chuldariin_begin(&c, 0, 32000, 0, false, false);
     chuldariin_limit(&c, 0, 32000);
     levels(9000, 9000);
     chuldariin_sample(&c, 10, readings, LENGTH);
@@ -88,10 +89,13 @@ static bool show(const char *name, void (*call)(void), const controller *start, 
 int main(void) {
     const controller plugged = after(1), closed = after(2);
     bool well = !plugged.closed && closed.closed;
+    controller digital = {0};
+    chuldariin_begin(&digital, 0, 32000, 0, false, true);
     well &= show("begin", begin, &closed, 0);
     well &= show("limit", limit, &closed, 0);
     well &= show("measure", measure, &closed, 0) && post.overrun.set;
     well &= show("measure_lines", measure_lines, &closed, 0) && post.overrun.set;
+    well &= show("link", link_call, &digital, 0) && post.grant == 16000;
     well &= show("fault", fault, &closed, 0);
     well &= show("clear", clear, &closed, 0);
     well &= show("tick", tick, &closed, 0);

@@ -18,23 +18,32 @@ static void sample(controller *c, uint64_t time, int32_t high, int32_t low) {
     told = chuldariin_sample(c, time, readings, LENGTH).wave;
 }
 
-static controller idle(void) {
+static controller begun(bool digital) {
     controller c = {0};
-    told = chuldariin_begin(&c, 0, 32000, 0, false).wave;
+    told = chuldariin_begin(&c, 0, 32000, 0, false, digital).wave;
     return c;
 }
 
-/* A van that charges under wave 533. */
-static controller charging(void) {
-    controller c = idle();
+static controller idle(void) { return begun(false); }
+
+/* A van that charges under this wave. */
+static controller closed(controller c, uint32_t wave) {
     told = chuldariin_limit(&c, 0, 32000).wave;
     sample(&c, 10, 9000, 9000);
     sample(&c, 20, 9000, 9000);
     sample(&c, 30, 6000, -12000);
     sample(&c, 40, 6000, -12000);
-    if (!c.closed || c.wave != 533)
+    if (!c.closed || c.wave != wave)
         abort();
     return c;
+}
+
+static controller charging(void) { return closed(idle(), 533); }
+
+static controller linked(void) {
+    controller c = begun(true);
+    told = chuldariin_link(&c, 0, 32000).wave;
+    return closed(c, 50);
 }
 
 /* Makes so many calls on one controller, c; i is the number of the call. */
@@ -53,6 +62,9 @@ MADE(measure_idle, idle(), chuldariin_measure(&c, 100, 15000 + i % 7))
 MADE(measure, charging(), chuldariin_measure(&c, 100, 15000 + i % 7))
 MADE(measure_over, charging(), chuldariin_measure(&c, 100, 36000 + i % 7))
 MADE(measure_lines, charging(), chuldariin_measure_lines(&c, 100, 15000, i % 7, 9000))
+MADE(digital_tick, linked(), chuldariin_tick(&c, 100))
+MADE(digital_measure, linked(), chuldariin_measure(&c, 100, 15000 + i % 7))
+MADE(link_call, linked(), chuldariin_link(&c, 100, i % 2 == 0 ? 16000 : 32000))
 
 static void reading(uint32_t calls) {
     for (uint32_t i = 0; i < calls; i++)
@@ -73,6 +85,9 @@ const struct timed_call timed[] = {
     {"measure, judged", measure},
     {"measure, judged, over the bound", measure_over},
     {"measure of three lines, judged", measure_lines},
+    {"tick, digital, charging", digital_tick},
+    {"measure, digital, judged", digital_measure},
+    {"link", link_call},
     {"reading", reading},
     {"duty", duty},
     {0, 0},

@@ -6,7 +6,7 @@ use parts::replies::Reply;
 use parts::settings::Settings;
 use units::Milliamps;
 use units::Millis;
-ghost use Rattle.rules.specs.Calls.{sample, limit, measure, fault, clear, tick};
+ghost use Rattle.rules.specs.Calls.{sample, limit, measure, link, fault, clear, tick};
 ghost use Rattle.rules.specs.Lines.{onLine1};
 ghost use Rattle.calls.specs.Answers.{Answers, Begins};
 
@@ -24,13 +24,23 @@ pub struct Answer {
 
 // Starts afresh with these settings; a pause of 0 stands for 10,000 ms. Refused, it hands back the lent controller, and a reply with
 // zeros beside the number.
-pub fn begin(c: Controller, time: u64, rated: u32, pause: u64, ventilation: bool) -> Answer
-    ensures { λ r. ⌜ Begins (record { time = time; rated = rated; pause = pause; ventilation = ventilation }) c (r .reply) (r .controller) ⌝ }
+pub fn begin(
+    c: Controller,
+    time: u64,
+    rated: u32,
+    pause: u64,
+    ventilation: bool,
+    digital: bool,
+) -> Answer
+    ensures { λ r. ⌜
+        Begins (record { time = time; rated = rated; pause = pause; ventilation = ventilation; digital = digital }) c (r .reply) (r .controller)
+        ⌝ }
 {
     let given = Settings {
         rated: Milliamps(rated),
         pause: Millis(pause),
         ventilation: ventilation,
+        digital: digital,
     };
     begun::begin_with(c, Millis(time), given)
 }
@@ -69,6 +79,13 @@ pub fn measure(c: Controller, time: u64, current: u32) -> Answer
     ensures { λ r. ⌜ Answers (record { time = time; event = measure (onLine1 current) }) c (r .reply) (r .controller) ⌝ }
 {
     measure_lines(c, time, current, 0, 0)
+}
+
+// The current granted by link, in milliamps; refused by a plain post.
+pub fn link(c: Controller, time: u64, granted: u32) -> Answer
+    ensures { λ r. ⌜ Answers (record { time = time; event = link granted }) c (r .reply) (r .controller) ⌝ }
+{
+    answered::answer(c, Millis(time), Event::Link(Milliamps(granted)))
 }
 
 // A fault from outside: 3 residual current, 4 welded contact, 5 over-temperature.

@@ -2,6 +2,7 @@
 use controller::Controller;
 use events::Event;
 use events::refusals;
+use parts::grants;
 use parts::settings;
 use units::Millis;
 use units::conditions;
@@ -24,13 +25,15 @@ fn times_allowed(c: Controller) -> bool
 fn in_range(c: Controller) -> bool
     ensures { λ r. ⌜ r ≡ inRange (stateOf c) ⌝ }
 {
-    let wave = refusals::wave_allowed(c.wave);
+    let wave = refusals::wave_allowed(c.settings.digital, c.wave);
     let limit = refusals::limit_allowed(c.limit);
+    let grant = grants::grant_allowed(c.grant);
     let rated = settings::rated_allowed(c.settings.rated);
     let pause = settings::pause_allowed(c.settings.pause);
     let times = times_allowed(c);
     let rest = conditions::all(rated, pause, times);
-    conditions::all(wave, limit, rest)
+    let currents = conditions::both(grant, rest);
+    conditions::all(wave, limit, currents)
 }
 
 // The host has altered it: no list of calls leads here.
@@ -43,14 +46,14 @@ pub(crate) fn altered(c: Controller) -> bool
     !whole
 }
 
-// 3, then 2, then 1, then 4 to 8; 0 if the call is accepted.
+// 3, then 2, then 1, then those for the arguments; 0 if the call is accepted.
 pub(crate) fn refusal(c: Controller, time: Millis, event: Event) -> u8
     ensures { λ r. ⌜ r ≡ lentRefusal (view c) (evaluatedAt time event) ⌝ }
 {
     let by_time = refusals::time_refusal(c.last, time);
     let altered = altered(c);
     let one = refusals::number_if(altered, 1);
-    let by_argument = refusals::argument_refusal(event);
+    let by_argument = refusals::argument_refusal(c.settings.digital, event);
     let rest = refusals::or_else(one, by_argument);
     refusals::or_else(by_time, rest)
 }

@@ -14,7 +14,8 @@ pub(crate) fn reply(c: Controller, number: u8) -> Reply
     let lines = c.lines;
     let faulted = c.faults.any();
     let letter = replies::letter(faulted, c.settled);
-    let digit = replies::digit(letter, c.wave);
+    let driven = c.is_driven();
+    let digit = replies::digit(letter, driven);
     let fault = c.faults.shown();
     Reply {
         refusal: number,

@@ -16,7 +16,7 @@ use denote.Triple.Clauses.{Ended, AtExit, closing}
 use denote.Triple.Spec.{Meets}
 use Rattle.duty.specs.Reading.{readingOf}
 use Rattle.duty.specs.DutyFor.{dutyFor}
-use Rattle.rules.specs.Calls.{sample, limit, measure, fault, clear, tick}
+use Rattle.rules.specs.Calls.{sample, limit, measure, link, fault, clear, tick}
 use Rattle.rules.specs.Lines.{onLine1}
 use Rattle.chuldariin.specs.Duties.{hostReading, hostDuty}
 use Rattle.chuldariin.specs.Lent.{AnswersLent, BeginsLent}
@@ -35,6 +35,9 @@ use Rattle.chuldariin.proofs.chuldariin_measure_lines.Met as lines-met
 use Rattle.chuldariin.proofs.chuldariin_measure as measure-call
 use Rattle.chuldariin.proofs.chuldariin_measure.Symbol as measure-symbol
 use Rattle.chuldariin.proofs.chuldariin_measure.Met as measure-met
+use Rattle.chuldariin.proofs.chuldariin_link as link-call
+use Rattle.chuldariin.proofs.chuldariin_link.Symbol as link-symbol
+use Rattle.chuldariin.proofs.chuldariin_link.Met as link-met
 use Rattle.chuldariin.proofs.chuldariin_fault as fault-call
 use Rattle.chuldariin.proofs.chuldariin_fault.Symbol as fault-symbol
 use Rattle.chuldariin.proofs.chuldariin_fault.Met as fault-met
@@ -56,7 +59,7 @@ module _ {M : Type 1} (𝓤 : URA M) (H : Heap 𝓤) (𝓜 : Model 𝓤 H) (𝓖
   abbrev pub Promises : (T : Ended) → Routine → ((κs : Lfts (T .signature .lifetimes)) → Args (T .signature) κs → Res (T .signature) κs → AtExit T κs → Type 0) → Type 1
   Promises T routine promise = Meets 𝓤 H (𝓖 .A) (T .signature) (𝓡 .run routine) (closing 𝓤 H (𝓖 .A) T (λ κs a. record { ghost = Unit {0}; requires = λ g. emp 𝓤; ensures = λ g r e. fact 𝓤 (promise κs a r e) }))
 
-  pub begin-promises : Promises begin.ended begin-symbol.routine (λ κs a r e. BeginsLent (record { time = a .1 .0; rated = a .1 .1 .0; pause = a .1 .1 .1 .0; ventilation = a .1 .1 .1 .1 .0 }) (a .0) r (e .0))
+  pub begin-promises : Promises begin.ended begin-symbol.routine (λ κs a r e. BeginsLent (record { time = a .1 .0; rated = a .1 .1 .0; pause = a .1 .1 .1 .0; ventilation = a .1 .1 .1 .1 .0; digital = a .1 .1 .1 .1 .1 .0 }) (a .0) r (e .0))
   begin-promises = begin-met.met 𝓤 H 𝓜 𝓖 𝓡
 
   pub sample-promises : Promises sample-call.ended sample-symbol.routine (λ κs a r e. AnswersLent (record { time = a .1 .0; event = sample (now (a .1 .1 .0)) }) (a .0) r (e .0))
@@ -71,6 +74,9 @@ module _ {M : Type 1} (𝓤 : URA M) (H : Heap 𝓤) (𝓜 : Model 𝓤 H) (𝓖
   -- the promise above, for this current on line 1 and 0 on the others
   pub measure-promises : Promises measure-call.ended measure-symbol.routine (λ κs a r e. AnswersLent (record { time = a .1 .0; event = measure (onLine1 (a .1 .1 .0)) }) (a .0) r (e .0))
   measure-promises = measure-met.met 𝓤 H 𝓜 𝓖 𝓡
+
+  pub link-promises : Promises link-call.ended link-symbol.routine (λ κs a r e. AnswersLent (record { time = a .1 .0; event = link (a .1 .1 .0) }) (a .0) r (e .0))
+  link-promises = link-met.met 𝓤 H 𝓜 𝓖 𝓡
 
   pub fault-promises : Promises fault-call.ended fault-symbol.routine (λ κs a r e. AnswersLent (record { time = a .1 .0; event = fault (a .1 .1 .0) }) (a .0) r (e .0))
   fault-promises = fault-met.met 𝓤 H 𝓜 𝓖 𝓡

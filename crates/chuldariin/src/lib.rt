@@ -1,7 +1,7 @@
 // The calls as the host makes them: each is lent the controller, runs the call by value, and stores what it hands back.
 use controller::Controller;
 use parts::replies::Reply;
-ghost use Rattle.rules.specs.Calls.{sample, limit, measure, fault, clear, tick};
+ghost use Rattle.rules.specs.Calls.{sample, limit, measure, link, fault, clear, tick};
 ghost use Rattle.rules.specs.Lines.{onLine1};
 ghost use Rattle.chuldariin.specs.Lent.{AnswersLent, BeginsLent};
 
@@ -16,10 +16,13 @@ pub extern "C" fn chuldariin_begin(
     rated: u32,
     pause: u64,
     ventilation: bool,
+    digital: bool,
 ) -> Reply
-    ensures { λ r. ⌜ BeginsLent (record { time = time; rated = rated; pause = pause; ventilation = ventilation }) (c .entry) r (c .exit) ⌝ }
+    ensures { λ r. ⌜
+        BeginsLent (record { time = time; rated = rated; pause = pause; ventilation = ventilation; digital = digital }) (c .entry) r (c .exit)
+        ⌝ }
 {
-    let s = calls::begin(*c, time, rated, pause, ventilation);
+    let s = calls::begin(*c, time, rated, pause, ventilation, digital);
     *c = s.controller;
     s.reply
 }
@@ -68,6 +71,16 @@ pub extern "C" fn chuldariin_measure(c: &mut Controller, time: u64, current: u32
     ensures { λ r. ⌜ AnswersLent (record { time = time; event = measure (onLine1 current) }) (c .entry) r (c .exit) ⌝ }
 {
     let s = calls::measure(*c, time, current);
+    *c = s.controller;
+    s.reply
+}
+
+// The current granted by link, in milliamps; refused by a plain post.
+#[no_mangle]
+pub extern "C" fn chuldariin_link(c: &mut Controller, time: u64, granted: u32) -> Reply
+    ensures { λ r. ⌜ AnswersLent (record { time = time; event = link granted }) (c .entry) r (c .exit) ⌝ }
+{
+    let s = calls::link(*c, time, granted);
     *c = s.controller;
     s.reply
 }

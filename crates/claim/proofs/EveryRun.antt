@@ -6,7 +6,7 @@ use Prim.Native.Nat.{ℕ, zero, suc, _≤_}
 use native.Mathlib.Omega.{arith}
 use lib.ListN.{length, getD, take}
 use lib.Seq.{take-length}
-use Rattle.units.specs.Wave.{driven}
+use Rattle.units.specs.Wave.{fivePercent, drivenIn}
 use Rattle.duty.specs.DutyFor.{IsGreatest}
 use Rattle.rules.specs.Answer.{begun, replyTo, lentAfter, repliesTo}
 use Rattle.rules.specs.Begin.{Begin, beginRefusal}
@@ -24,6 +24,7 @@ use Rattle.rules.proofs.Every20.{closed-is-sound}
 use Rattle.rules.proofs.EveryList.{every-list}
 use Rattle.rules.proofs.LentReplies.{contactor-told, demand3-replied}
 use Rattle.rules.proofs.RefusalsAre.{refused-by}
+use Rattle.rules.proofs.Stepped.{mark-is}
 use Rattle.parts.specs.declared.replies.Reply.{Reply}
 use Rattle.parts.specs.Views.{asReply}
 use Rattle.controller.specs.declared.Controller.{Controller}
@@ -67,6 +68,9 @@ module _ (begin : Begin) (calls : List Call) (begins : Reply) (replies : List Re
       let counted = list .carried k within ∙ sym (ap (λ r. r .closings) (replies-are k within)) in
       λ i. record { state = list .states-are k within i; closings = counted i }
 
+  mark : (k : ℕ) → before begin calls k .settings .digital ≡ begin .digital
+  mark = mark-is begin calls
+
   pub every-run : EveryRun begin calls begins replies final
   every-run =
       let list = every-list begin calls accepted in
@@ -77,6 +81,7 @@ module _ (begin : Begin) (calls : List Call) (begins : Reply) (replies : List Re
         waves = λ k within. ap (λ r. r .wave) (replies-are k within) ∙ list .waves k within;
         lines-are = λ k within. subst (LastMeasured begin calls k) (sym (ap (λ r. r .lines) (replies-are k within))) (list .lines-are k within);
         over-current = list .over-current;
+        digital-lowers-none = list .digital-lowers-none;
         contactor-held =
             ap (λ l. l .state .closed) final-lent ∙ list .held (length calls) (omega arith) ∙ sym (ap (λ r. r .closed) whole);
         closings-held =
@@ -96,9 +101,14 @@ module _ (begin : Begin) (calls : List Call) (begins : Reply) (replies : List Re
         never-1 = λ k below one.
             let known = refused-by (lentAt begin calls k) (getD calls k noCall) .one .0 (sym (ap (λ r. r .refusal) (replies-are (suc k) below)) ∙ one) in
             clash (altered-exactly (lentAt begin calls k) .1 (known .1)) (list .not-altered k (omega arith));
-        duties = λ k within.
-            subst (λ wave. driven wave ≡ true → IsGreatest (available (before begin calls k)) wave)
-            (sym (ap (λ r. r .wave) (replies-are k within) ∙ list .waves k within)) (list .reached k within .driven-greatest);
+        duties = λ plain k within.
+            subst (λ wave. drivenIn (begin .digital) wave ≡ true → IsGreatest (available (before begin calls k)) wave)
+            (sym (ap (λ r. r .wave) (replies-are k within) ∙ list .waves k within))
+            (λ is. list .reached k within .driven-greatest (mark k ∙ plain) (ap (λ d. drivenIn d (before begin calls k .wave)) (mark k) ∙ is));
+        digital-waves = λ digital k within.
+            subst (λ wave. drivenIn (begin .digital) wave ≡ true → wave ≡ fivePercent)
+            (sym (ap (λ r. r .wave) (replies-are k within) ∙ list .waves k within))
+            (λ is. list .reached k within .driven-five (mark k ∙ digital) (ap (λ d. drivenIn d (before begin calls k .wave)) (mark k) ∙ is));
         settings-are = list .settings-are;
         least-pause = list .least-pause;
         reached = list .reached;

@@ -1,11 +1,11 @@
 -- What holds of every run of the calls: one proposition over begin's values, the calls, the replies and the final controller (proved in
 -- proofs/EveryRun.antt). It has demand 3, and what demands 1 and 2 say of a whole list.
 use mathlib.Core.Path.{_≡_}
-use mathlib.Core.Bool.{true}
+use mathlib.Core.Bool.{true, false}
 use mathlib.Core.List.{List, _∷_}
 use Prim.Native.Nat.{ℕ, suc, _≤_, _<_}
 use lib.ListN.{length, getD}
-use Rattle.units.specs.Wave.{driven}
+use Rattle.units.specs.Wave.{fivePercent, drivenIn}
 use Rattle.duty.specs.DutyFor.{IsGreatest}
 use Rattle.rules.specs.Begin.{Begin, pauseFor, fresh}
 use Rattle.rules.specs.Calls.{Call}
@@ -14,7 +14,7 @@ use Rattle.rules.specs.Every20.{ClosedIsSound}
 use Rattle.rules.specs.EveryList.{Reached}
 use Rattle.rules.specs.LastMeasured.{LastMeasured}
 use Rattle.rules.specs.Lent.{Lent}
-use Rattle.rules.specs.OverCurrent.{OverCurrentExactly}
+use Rattle.rules.specs.OverCurrent.{OverCurrentExactly, DigitalLowersNone}
 use Rattle.rules.specs.Refusals.{refusal}
 use Rattle.rules.specs.RefusalsAre.{Altered, RefusedBy}
 use Rattle.rules.specs.Replay.{replay}
@@ -49,12 +49,16 @@ pub record EveryRun (begin : Begin) (calls : List Call) (beginReply : Reply) (re
   -- fault 2 comes exactly with a call that finds the van over its bound for 5,000 or longer, and that comes 5,000 or longer after every lowered duty
   -- (document 02, c); the faults are the replay's, which the replies and the controller follow (`replies-are`, `state-is`)
   pub over-current : OverCurrentExactly begin calls
+  -- and a digital post lowers no duty
+  pub digital-lowers-none : DigitalLowersNone begin calls
   -- demand 1: each number comes for its condition and for nothing else, and 1 never
   pub refused-by : (k : ℕ) → k < length calls → RefusedBy (lentOfReplies begin calls beginReply replies k) (getD calls k noCall) (replied beginReply replies (suc k) .refusal)
   pub never-1 : (k : ℕ) → k < length calls → _≡_ {A = ℕ} (replied beginReply replies (suc k) .refusal) 1 → ⊥
-  -- demand 2: a driven wave is the greatest allowed duty for the lesser of rated and limit
-  pub duties : (k : ℕ) → k ≤ length calls → driven (replied beginReply replies k .wave) ≡ true
+  -- demand 2: in a plain post a driven wave is the greatest allowed duty for the lesser of rated and limit; in a digital post it is 5 % (document 02, e)
+  pub duties : begin .digital ≡ false → (k : ℕ) → k ≤ length calls → drivenIn (begin .digital) (replied beginReply replies k .wave) ≡ true
       → IsGreatest (available (before begin calls k)) (replied beginReply replies k .wave)
+  pub digital-waves : begin .digital ≡ true → (k : ℕ) → k ≤ length calls → drivenIn (begin .digital) (replied beginReply replies k .wave) ≡ true
+      → _≡_ {A = ℕ} (replied beginReply replies k .wave) fivePercent
   -- the controller holds the contactor and the closings that were last told, and else what the replay keeps
   pub contactor-held : final .closed ≡ replied beginReply replies (length calls) .closed
   pub closings-held : final .closings ≡ replied beginReply replies (length calls) .closings

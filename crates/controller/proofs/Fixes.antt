@@ -9,8 +9,9 @@ abbrev pub controllerOf : Lent → Controller
 controllerOf lent =
     let s = lent .state in
     record {
-      settings = record { rated = record { 0 = s .settings .rated }; pause = record { 0 = s .settings .pause }; ventilation = s .settings .ventilation };
+      settings = record { rated = record { 0 = s .settings .rated }; pause = record { 0 = s .settings .pause }; ventilation = s .settings .ventilation; digital = s .settings .digital };
       limit = record { 0 = s .limit };
+      grant = record { 0 = s .grant };
       wave = s .wave;
       closed = s .closed;
       settled = s .settled;

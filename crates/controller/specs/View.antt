@@ -21,6 +21,7 @@ stateOf c =
     record {
       settings = asSettings (c .settings);
       limit = c .limit .0;
+      grant = c .grant .0;
       wave = c .wave;
       closed = c .closed;
       settled = c .settled;

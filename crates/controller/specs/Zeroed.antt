@@ -12,6 +12,7 @@ blank settings wave last =
       state = record {
         settings = settings;
         limit = 0;
+        grant = 0;
         wave = wave;
         closed = false;
         settled = unsettled;
@@ -29,4 +30,4 @@ blank settings wave last =
 
 -- cleared memory
 abbrev pub zeroed : Lent
-zeroed = blank (record { rated = 0; pause = 0; ventilation = false }) 0 0
+zeroed = blank (record { rated = 0; pause = 0; ventilation = false; digital = false }) 0 0

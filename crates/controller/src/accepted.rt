@@ -17,7 +17,8 @@ impl Controller {
         ensures { λ r. ⌜ asPair r ≡ pairOf (stateOf self) (asEvent event) ⌝ }
     {
         let sampled = events::is_sample(event);
-        let this = events::verdict_of(event, self.wave, self.settings.ventilation);
+        let driven = self.is_driven();
+        let this = events::verdict_of(event, driven, self.settings.ventilation);
         let previous = self.previous;
         Pair {
             sampled: sampled,

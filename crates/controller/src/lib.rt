@@ -15,18 +15,21 @@ ghost use Rattle.controller.specs.Zeroed.{blank, zeroed};
 mod accepted; // accepted.rt: the steps in their order
 mod steps; // steps.rt: the steps of an accepted call
 
-// What the host keeps, and lends to each call.
+// What the host keeps, and lends to each call. In this order it takes 128 bytes, up to which it is copied without a call of memcpy.
 #[repr(C)]
 pub struct Controller {
     pub settings: Settings,
     // The depot's limit.
     pub limit: Milliamps,
+    // The current granted by link.
+    pub grant: Milliamps,
     // The wave command, in tenths of a percent.
     pub wave: u32,
     pub closed: bool,
     // The settled state as its letter in ASCII; any other number is U.
     pub settled: u8,
     pub faults: Faults,
+    pub previous: Previous,
     // The time of the last accepted call, or of begin.
     pub last: Millis,
     // The last sound sample.
@@ -36,7 +39,6 @@ pub struct Controller {
     // The starts of the over-run, or its last restart, and of the stop.
     pub overrun: Moment,
     pub stop: Moment,
-    pub previous: Previous,
     // How often the contactor has closed since begin.
     pub closings: u32,
     // The currents of the last accepted measure.
@@ -54,16 +56,17 @@ pub fn blank(settings: Settings, wave: u32, last: Millis) -> Controller
     Controller {
         settings: settings,
         limit: Milliamps(0),
+        grant: Milliamps(0),
         wave: wave,
         closed: false,
         settled: 0,
         faults: faults,
+        previous: previous,
         last: last,
         sound: empty,
         opening: empty,
         overrun: empty,
         stop: empty,
-        previous: previous,
         closings: 0,
         lines: lines,
     }
@@ -78,6 +81,7 @@ impl Controller {
             rated: Milliamps(0),
             pause: Millis(0),
             ventilation: false,
+            digital: false,
         };
         blank(none, 0, Millis(0))
     }

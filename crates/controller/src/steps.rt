@@ -2,17 +2,21 @@
 use crate::Controller;
 use events::Event;
 use parts::counts;
+use parts::grants;
 use parts::moments;
 use parts::moments::Moment;
 use parts::samples;
 use parts::samples::Pair;
+use units::Milliamps;
 use units::Millis;
 use units::conditions;
 ghost use mathlib.Core.Path.{_≡_};
 ghost use Rattle.rules.specs.Accepted.{stepEnd};
-ghost use Rattle.rules.specs.Step1Event.{stepEvent};
+ghost use Prim.Native.Nat.{min};
+ghost use Rattle.rules.specs.State.{isDriven};
+ghost use Rattle.rules.specs.Step1Event.{judges, stepEvent};
 ghost use Rattle.rules.specs.Step2Latches.{overCurrent, unsettles, stepLatch};
-ghost use Rattle.rules.specs.Step3Wave.{stepWave};
+ghost use Rattle.rules.specs.Step3Wave.{available, heldHigh, stepWave};
 ghost use Rattle.rules.specs.Step4Opening.{cause, opens, stepOpening};
 ghost use Rattle.rules.specs.Step5Closing.{closes};
 ghost use Rattle.parts.specs.Views.{asPair};
@@ -20,17 +24,59 @@ ghost use Rattle.events.specs.Views.{asEvent};
 ghost use Rattle.controller.specs.View.{stateOf, view, onState, onClosing};
 
 impl Controller {
+    // The wave is driven, by the post's mark.
+    pub fn is_driven(self) -> bool
+        ensures { λ r. ⌜ r ≡ isDriven (stateOf self) ⌝ }
+    {
+        units::driven_in(self.settings.digital, self.wave)
+    }
+
+    // A measure is judged: closed, and the wave driven.
+    pub(crate) fn judges(self) -> bool
+        ensures { λ r. ⌜ r ≡ judges (stateOf self) ⌝ }
+    {
+        let driven = self.is_driven();
+        conditions::both(self.closed, driven)
+    }
+
+    // The lesser of rated and limit.
+    pub(crate) fn available(self) -> Milliamps
+        ensures { λ r. ⌜ r .0 ≡ available (stateOf self) ⌝ }
+    {
+        self.settings.rated.lesser(self.limit)
+    }
+
+    // The least of grant, rated and limit.
+    pub(crate) fn least(self) -> Milliamps
+        ensures { λ r. ⌜ r .0 ≡ min (stateOf self .grant) (min (stateOf self .settings .rated) (stateOf self .limit)) ⌝ }
+    {
+        let available = self.available();
+        self.grant.lesser(available)
+    }
+
     // Step 1: its event.
     pub(crate) fn event(mut self, time: Millis, event: Event, pair: Pair) -> Controller
         ensures { λ r. ⌜ view r ≡ onState (stepEvent (time .0) (asEvent event) (asPair pair)) (view self) ⌝ }
     {
         let limit = events::limit_by(event, self.limit);
         let settled = events::settled_by(pair, self.settled);
+        let grant = events::grant_by(event, settled, self.grant);
         let faults = events::faults_by(event, self.faults);
         let sound = events::sound_by(time, pair, self.sound);
-        let overrun = events::overrun_by(time, event, self.closed, self.wave, self.overrun);
+        let judges = self.judges();
+        let least = self.least();
+        let overrun = events::overrun_by(
+            time,
+            event,
+            judges,
+            self.settings.digital,
+            least,
+            self.wave,
+            self.overrun,
+        );
         let lines = events::lines_by(event, self.lines);
         self.limit = limit;
+        self.grant = grant;
         self.settled = settled;
         self.faults = faults;
         self.sound = sound;
@@ -72,15 +118,27 @@ impl Controller {
         self
     }
 
+    // The wave is held at steady +12 V: no duty by the plain rules, or a digital post closed with a grant below 6,000.
+    pub(crate) fn held_high(self) -> bool
+        ensures { λ r. ⌜ r ≡ heldHigh (stateOf self) ⌝ }
+    {
+        let available = self.available();
+        let none = waves::no_duty(available, self.settled, self.settings.ventilation);
+        let ungranted = grants::ungranted(self.settings.digital, self.closed, self.grant);
+        conditions::either(none, ungranted)
+    }
+
     // Step 3: the wave, and what follows from it for the over-run and the stop.
     pub(crate) fn wave(mut self, time: Millis) -> Controller
         ensures { λ r. ⌜ view r ≡ onState (stepWave (time .0)) (view self) ⌝ }
     {
         let faulted = self.faults.any();
-        let available = self.settings.rated.lesser(self.limit);
-        let wave = waves::wave_for(faulted, available, self.settled, self.settings.ventilation);
-        let overrun = waves::overrun_under(time, self.wave, wave, self.overrun);
-        let stop = waves::stop_under(time, wave, self.closed, self.stop);
+        let held = self.held_high();
+        let digital = self.settings.digital;
+        let available = self.available();
+        let wave = waves::wave_for(faulted, held, digital, available);
+        let overrun = waves::overrun_under(digital, time, self.wave, wave, self.overrun);
+        let stop = waves::stop_under(digital, time, wave, self.closed, self.stop);
         self.wave = wave;
         self.overrun = overrun;
         self.stop = stop;
@@ -133,10 +191,12 @@ impl Controller {
     pub(crate) fn closes(self, opened: bool, time: Millis, pair: Pair) -> bool
         ensures { λ r. ⌜ r ≡ closes opened (time .0) (asPair pair) (stateOf self) ⌝ }
     {
-        let driven = units::driven(self.wave);
+        let driven = self.is_driven();
+        let granted = grants::granted(self.settings.digital, self.grant);
         let proven = pair.both_proven();
         let pause_over = self.opening.none_or_at_least_ago(self.settings.pause, time);
-        let met = conditions::all(driven, proven, pause_over);
+        let rest = conditions::all(granted, proven, pause_over);
+        let met = conditions::both(driven, rest);
         conditions::all(!self.closed, !opened, met)
     }
 

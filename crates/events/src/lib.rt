@@ -13,14 +13,13 @@ use units::Millis;
 use units::conditions;
 use window::Evaluated;
 ghost use mathlib.Core.Path.{_≡_};
-ghost use mathlib.Core.Bool.{cond};
 ghost use Rattle.duty.specs.Answers.{asReads};
 ghost use Rattle.window.specs.Answers.{asEvaluation};
 ghost use Rattle.rules.specs.Calls.{isSample, isMeasure, isFault};
 ghost use Rattle.rules.specs.Lines.{noCurrents, largest};
 ghost use Rattle.rules.specs.Pairs.{windowVerdict, verdict};
-ghost use Rattle.rules.specs.State.{State};
-ghost use Rattle.rules.specs.Step1Event.{settledBy, soundBy, limitBy, linesBy, faultsBy, currentOf, announced, isOver, overrunJudged, overrunAt, overrunBy};
+ghost use Rattle.rules.specs.State.{State, isDriven};
+ghost use Rattle.rules.specs.Step1Event.{settledBy, soundBy, limitBy, grantStored, grantBy, linesBy, faultsBy, currentOf, announced, allowedBy, allowedCurrent, judges, isOver, overrunJudged, overrunAt, overrunBy};
 ghost use Rattle.parts.specs.Views.{asMoment, asPair, asFaults, asLines};
 ghost use Rattle.events.specs.Views.{asEvent};
 
@@ -33,6 +32,8 @@ pub enum Event {
     Limit(Milliamps),
     // The current on each line.
     Measure(Lines),
+    // The current granted by link.
+    Link(Milliamps),
     // A fault's number.
     Fault(u32),
     Clear,
@@ -46,6 +47,7 @@ pub fn is_sample(event: Event) -> bool
         Event::Sample(_) => true,
         Event::Limit(_) => false,
         Event::Measure(_) => false,
+        Event::Link(_) => false,
         Event::Fault(_) => false,
         Event::Clear => false,
         Event::Tick => false,
@@ -59,31 +61,33 @@ pub fn is_fault(event: Event) -> bool
         Event::Sample(_) => false,
         Event::Limit(_) => false,
         Event::Measure(_) => false,
+        Event::Link(_) => false,
         Event::Fault(_) => true,
         Event::Clear => false,
         Event::Tick => false,
     }
 }
 
-fn judged(window: Evaluated, wave: u32, ventilation: bool) -> Verdict
-    ensures { λ r. ⌜ r ≡ windowVerdict wave ventilation (asEvaluation window) ⌝ }
+fn judged(window: Evaluated, driven: bool, ventilation: bool) -> Verdict
+    ensures { λ r. ⌜ r ≡ windowVerdict driven ventilation (asEvaluation window) ⌝ }
 {
     match window {
-        Evaluated::Levels { high, low } => pilot::verdicts::judge(wave, high, low, ventilation),
+        Evaluated::Levels { high, low } => pilot::verdicts::judge(driven, high, low, ventilation),
         Evaluated::WrongLength => samples::no_verdict(),
         Evaluated::OutOfRange => samples::no_verdict(),
         Evaluated::Unsupported => samples::no_verdict(),
     }
 }
 
-// A sample's verdict: its levels, judged by the wave and the ventilation as the call finds them.
-pub fn verdict_of(event: Event, wave: u32, ventilation: bool) -> Verdict
-    ensures { λ r. ⌜ ((s : State) → s .wave ≡ wave → s .settings .ventilation ≡ ventilation → r ≡ verdict s (asEvent event)) ⌝ }
+// A sample's verdict: its levels, judged by whether the wave is driven and by the ventilation, as the call finds them.
+pub fn verdict_of(event: Event, driven: bool, ventilation: bool) -> Verdict
+    ensures { λ r. ⌜ ((s : State) → isDriven s ≡ driven → s .settings .ventilation ≡ ventilation → r ≡ verdict s (asEvent event)) ⌝ }
 {
     match event {
-        Event::Sample(window) => judged(window, wave, ventilation),
+        Event::Sample(window) => judged(window, driven, ventilation),
         Event::Limit(_) => samples::no_verdict(),
         Event::Measure(_) => samples::no_verdict(),
+        Event::Link(_) => samples::no_verdict(),
         Event::Fault(_) => samples::no_verdict(),
         Event::Clear => samples::no_verdict(),
         Event::Tick => samples::no_verdict(),
@@ -115,10 +119,35 @@ pub fn limit_by(event: Event, stored: Milliamps) -> Milliamps
         Event::Sample(_) => stored,
         Event::Limit(given) => given,
         Event::Measure(_) => stored,
+        Event::Link(_) => stored,
         Event::Fault(_) => stored,
         Event::Clear => stored,
         Event::Tick => stored,
     }
+}
+
+// A link call stores its grant.
+fn grant_stored(event: Event, stored: Milliamps) -> Milliamps
+    ensures { λ r. ⌜ r .0 ≡ grantStored (asEvent event) (stored .0) ⌝ }
+{
+    match event {
+        Event::Sample(_) => stored,
+        Event::Limit(_) => stored,
+        Event::Measure(_) => stored,
+        Event::Link(granted) => granted,
+        Event::Fault(_) => stored,
+        Event::Clear => stored,
+        Event::Tick => stored,
+    }
+}
+
+// The grant: 0 with A settled, which is the state after settling, else as stored.
+pub fn grant_by(event: Event, settled: u8, stored: Milliamps) -> Milliamps
+    ensures { λ r. ⌜ r .0 ≡ grantBy (asEvent event) settled (stored .0) ⌝ }
+{
+    let a = settled == b'A';
+    let grant = grant_stored(event, stored);
+    lines::pick_current(a, Milliamps(0), grant)
 }
 
 fn is_measure(event: Event) -> bool
@@ -128,6 +157,7 @@ fn is_measure(event: Event) -> bool
         Event::Sample(_) => false,
         Event::Limit(_) => false,
         Event::Measure(_) => true,
+        Event::Link(_) => false,
         Event::Fault(_) => false,
         Event::Clear => false,
         Event::Tick => false,
@@ -142,6 +172,7 @@ fn lines_of(event: Event) -> Lines
         Event::Sample(_) => Lines::none(),
         Event::Limit(_) => Lines::none(),
         Event::Measure(lines) => lines,
+        Event::Link(_) => Lines::none(),
         Event::Fault(_) => Lines::none(),
         Event::Clear => Lines::none(),
         Event::Tick => Lines::none(),
@@ -165,6 +196,7 @@ pub fn faults_by(event: Event, faults: Faults) -> Faults
         Event::Sample(_) => faults,
         Event::Limit(_) => faults,
         Event::Measure(_) => faults,
+        Event::Link(_) => faults,
         Event::Fault(kind) => faults.with_kind(kind),
         Event::Clear => Faults::none(),
         Event::Tick => faults,
@@ -183,7 +215,23 @@ fn current_of(reading: Reading) -> Milliamps
     }
 }
 
-// More than a tenth above what is announced.
+// The current that the van may draw by the wave.
+fn announced(wave: u32) -> Milliamps
+    ensures { λ r. ⌜ r .0 ≡ announced wave ⌝ }
+{
+    let reading = duty::reading_of(wave);
+    current_of(reading)
+}
+
+// What an over-run is judged against: the wave's reading in a plain post, the least of grant, rated and limit in a digital one.
+fn allowed_by(digital: bool, least: Milliamps, wave: u32) -> Milliamps
+    ensures { λ r. ⌜ r .0 ≡ allowedBy digital (least .0) wave ⌝ }
+{
+    let read = announced(wave);
+    lines::pick_current(digital, least, read)
+}
+
+// More than a tenth above what is allowed.
 fn is_over(line: Milliamps, allowed: Milliamps) -> bool
     ensures { λ r. ⌜ r ≡ isOver (line .0) (allowed .0) ⌝ }
 {
@@ -192,50 +240,73 @@ fn is_over(line: Milliamps, allowed: Milliamps) -> bool
     most < drawn
 }
 
-// A measure under a driven wave of a closed contactor: the over-run starts unless it runs, or it ends.
-fn overrun_at(time: Millis, line: Milliamps, wave: u32, overrun: Moment) -> Moment
-    ensures { λ r. ⌜ asMoment r ≡ overrunJudged (time .0) (line .0) (announced wave) (asMoment overrun) ⌝ }
+// A measure that is judged: the over-run starts unless it runs, or it ends.
+fn overrun_judged(time: Millis, line: Milliamps, allowed: Milliamps, overrun: Moment) -> Moment
+    ensures { λ r. ⌜ asMoment r ≡ overrunJudged (time .0) (line .0) (allowed .0) (asMoment overrun) ⌝ }
 {
-    let reading = duty::reading_of(wave);
-    let allowed = current_of(reading);
     let over = is_over(line, allowed);
     let runs = overrun.started_by(time);
     let none = Moment::empty();
     moments::pick(over, runs, none)
 }
 
-// The reading is asked only where the measure is judged.
-fn judged_over(judges: bool, time: Millis, line: Milliamps, wave: u32, overrun: Moment) -> Moment
-    ensures { λ r. ⌜ asMoment r ≡ cond judges (overrunJudged (time .0) (line .0) (announced wave) (asMoment overrun)) (asMoment overrun) ⌝ }
+// A measure that is judged, by what the post allows.
+fn overrun_at(
+    time: Millis,
+    line: Milliamps,
+    digital: bool,
+    least: Milliamps,
+    wave: u32,
+    overrun: Moment,
+) -> Moment
+    ensures { λ r. ⌜ asMoment r ≡ overrunJudged (time .0) (line .0) (allowedBy digital (least .0) wave) (asMoment overrun) ⌝ }
 {
-    if judges {
-        overrun_at(time, line, wave, overrun)
+    let allowed = allowed_by(digital, least, wave);
+    overrun_judged(time, line, allowed, overrun)
+}
+
+// A measure: on the largest of its currents, and only where it is judged; the reading of a duty is not asked elsewhere.
+fn measured(
+    time: Millis,
+    lines: Lines,
+    judged: bool,
+    digital: bool,
+    least: Milliamps,
+    wave: u32,
+    overrun: Moment,
+) -> Moment
+    ensures { λ r. ⌜
+        asMoment r ≡ overrunAt (time .0) (largest (asLines lines)) judged (allowedBy digital (least .0) wave) (asMoment overrun)
+        ⌝ }
+{
+    let line = lines.largest();
+    if judged {
+        overrun_at(time, line, digital, least, wave, overrun)
     } else {
         overrun
     }
 }
 
-// A measure is judged, on the largest of its currents, where the contactor is closed and the wave driven.
-fn measured(time: Millis, lines: Lines, closed: bool, wave: u32, overrun: Moment) -> Moment
-    ensures { λ r. ⌜ asMoment r ≡ overrunAt (time .0) (largest (asLines lines)) closed wave (asMoment overrun) ⌝ }
-{
-    let line = lines.largest();
-    let driven = units::driven(wave);
-    let judges = conditions::both(closed, driven);
-    judged_over(judges, time, line, wave, overrun)
-}
-
-// The over-run after the event: only a measure starts or ends it here.
-pub fn overrun_by(time: Millis, event: Event, closed: bool, wave: u32, overrun: Moment) -> Moment
+// The over-run after the event: only a measure starts or ends it here. `least` is that of grant, rated and limit.
+pub fn overrun_by(
+    time: Millis,
+    event: Event,
+    judged: bool,
+    digital: bool,
+    least: Milliamps,
+    wave: u32,
+    overrun: Moment,
+) -> Moment
     ensures { λ r. ⌜
-        ((s : State) → s .closed ≡ closed → s .wave ≡ wave → s .overrun ≡ asMoment overrun
+        ((s : State) → judges s ≡ judged → allowedCurrent s ≡ allowedBy digital (least .0) wave → s .overrun ≡ asMoment overrun
         → asMoment r ≡ overrunBy (time .0) (asEvent event) s)
         ⌝ }
 {
     match event {
         Event::Sample(_) => overrun,
         Event::Limit(_) => overrun,
-        Event::Measure(lines) => measured(time, lines, closed, wave, overrun),
+        Event::Measure(lines) => measured(time, lines, judged, digital, least, wave, overrun),
+        Event::Link(_) => overrun,
         Event::Fault(_) => overrun,
         Event::Clear => overrun,
         Event::Tick => overrun,

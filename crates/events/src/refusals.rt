@@ -1,5 +1,6 @@
-// What a call is refused for: 3, then 2, then by number; 0 if it is accepted.
+// What a call is refused for: 3, then 2, then by number, but 12 before 11; 0 if it is accepted.
 use crate::Event;
+use parts::grants;
 use parts::lines::Lines;
 use parts::settings;
 use parts::settings::Settings;
@@ -9,11 +10,11 @@ use units::conditions;
 use window::Evaluated;
 ghost use mathlib.Core.Path.{_≡_};
 ghost use mathlib.Core.Bool.{cond};
-ghost use Rattle.rules.specs.Calls.{limit, measure, fault};
 ghost use Rattle.window.specs.Answers.{asEvaluation};
 ghost use Rattle.rules.specs.Begin.{tooLate, beginRefusal};
-ghost use Rattle.rules.specs.Lent.{countAllowed, waveAllowed};
-ghost use Rattle.rules.specs.Refusals.{orElse, timeRefusal, windowRefusal, kindAllowed, limitAllowed, argumentRefusal};
+ghost use Rattle.rules.specs.Lines.{linesAllowed};
+ghost use Rattle.rules.specs.Lent.{countAllowed, drivenAllowed, waveAllowed};
+ghost use Rattle.rules.specs.Refusals.{orElse, timeRefusal, windowRefusal, kindAllowed, limitAllowed, linkRefusal, argumentRefusal};
 ghost use Rattle.parts.specs.Views.{asLines, beginsWith};
 ghost use Rattle.events.specs.Views.{asEvent};
 
@@ -80,12 +81,21 @@ fn kind_allowed(kind: u32) -> bool
     conditions::both(not_below, not_above)
 }
 
-// The wave's range in a lent controller.
-pub fn wave_allowed(wave: u32) -> bool
-    ensures { λ r. ⌜ r ≡ waveAllowed wave ⌝ }
+// The driven waves of a post: 5 % of a digital one, 100 to 960 of a plain one.
+fn driven_allowed(digital: bool, wave: u32) -> bool
+    ensures { λ r. ⌜ r ≡ drivenAllowed digital wave ⌝ }
+{
+    let five = units::is_five_percent(wave);
+    let driven = units::driven(wave);
+    conditions::pick(digital, five, driven)
+}
+
+// The wave's range in a lent controller of this mark.
+pub fn wave_allowed(digital: bool, wave: u32) -> bool
+    ensures { λ r. ⌜ r ≡ waveAllowed digital wave ⌝ }
 {
     let low = wave == 0;
-    let driven = units::driven(wave);
+    let driven = driven_allowed(digital, wave);
     let high = wave == 1000;
     conditions::any_of(low, driven, high)
 }
@@ -110,34 +120,53 @@ fn window_refusal(window: Evaluated) -> u8
 }
 
 fn limit_refusal(current: Milliamps) -> u8
-    ensures { λ r. ⌜ r ≡ argumentRefusal (limit (current .0)) ⌝ }
+    ensures { λ r. ⌜ r ≡ cond (limitAllowed (current .0)) 0 7 ⌝ }
 {
     let allowed = limit_allowed(current);
     number_unless(allowed, 7)
 }
 
 fn measure_refusal(lines: Lines) -> u8
-    ensures { λ r. ⌜ r ≡ argumentRefusal (measure (asLines lines)) ⌝ }
+    ensures { λ r. ⌜ r ≡ cond (linesAllowed (asLines lines)) 0 7 ⌝ }
 {
     let allowed = lines.allowed();
     number_unless(allowed, 7)
 }
 
 fn kind_refusal(kind: u32) -> u8
-    ensures { λ r. ⌜ r ≡ argumentRefusal (fault kind) ⌝ }
+    ensures { λ r. ⌜ r ≡ cond (kindAllowed kind) 0 8 ⌝ }
 {
     let allowed = kind_allowed(kind);
     number_unless(allowed, 8)
 }
 
-// 4 to 8, for the arguments.
-pub fn argument_refusal(event: Event) -> u8
-    ensures { λ r. ⌜ r ≡ argumentRefusal (asEvent event) ⌝ }
+fn link_number(digital: bool, allowed: bool) -> u8
+    ensures { λ r. ⌜ r ≡ cond digital (cond allowed 0 11) 12 ⌝ }
+{
+    if digital {
+        if allowed { 0 } else { 11 }
+    } else {
+        12
+    }
+}
+
+// 12: a link call to a plain post; then 11: a grant above 80,000.
+fn link_refusal(digital: bool, granted: Milliamps) -> u8
+    ensures { λ r. ⌜ r ≡ linkRefusal digital (granted .0) ⌝ }
+{
+    let allowed = grants::grant_allowed(granted);
+    link_number(digital, allowed)
+}
+
+// 4 to 8, 11 and 12: for the arguments, in a post of this mark.
+pub fn argument_refusal(digital: bool, event: Event) -> u8
+    ensures { λ r. ⌜ r ≡ argumentRefusal digital (asEvent event) ⌝ }
 {
     match event {
         Event::Sample(window) => window_refusal(window),
         Event::Limit(current) => limit_refusal(current),
         Event::Measure(lines) => measure_refusal(lines),
+        Event::Link(granted) => link_refusal(digital, granted),
         Event::Fault(kind) => kind_refusal(kind),
         Event::Clear => 0,
         Event::Tick => 0,

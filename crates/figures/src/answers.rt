@@ -35,7 +35,7 @@ fn reading(d: u64) {
 
 // Under a driven wave.
 fn sound(high: u64, low: u64) {
-    let is_sound = verdicts::sound(533, Millivolts(level(high)), Millivolts(level(low)));
+    let is_sound = verdicts::sound(true, Millivolts(level(high)), Millivolts(level(low)));
     print::either(is_sound, phrases::SOUND, phrases::UNSOUND);
 }
 

@@ -22,10 +22,13 @@ pub fn pick(first: bool, a: Controller, b: Controller) -> Controller {
 // The controller with a field altered.
 fn altered(mut c: Controller, field: u64, value: u64) -> Controller {
     let number = narrow(value);
+    let digital = value == 1;
     match field {
         words::RATED => c.settings.rated.0 = number,
         words::PAUSE => c.settings.pause.0 = value,
+        words::DIGITAL => c.settings.digital = digital,
         words::LIMIT => c.limit.0 = number,
+        words::GRANT => c.grant.0 = number,
         words::WAVE => c.wave = number,
         words::CLOSINGS => c.closings = number,
         words::LINE1 => c.lines.line1.0 = number,
@@ -109,10 +112,11 @@ pub fn answer(r: Row, c: Controller, window: &[i32]) -> Answer {
     let word = r.word;
     let number = narrow(r.b);
     match word {
-        words::BEGIN => calls::begin(c, r.a, number, r.c, r.d == words::YES),
+        words::BEGIN => calls::begin(c, r.a, number, r.c, r.d == words::YES, r.digital),
         words::SAMPLE | words::SAMPLES => sample(c, word, r.a, window),
         words::LIMIT => calls::limit(c, r.a, number),
         words::MEASURE => measure(r, c),
+        words::LINK => calls::link(c, r.a, number),
         words::FAULT => calls::fault(c, r.a, number),
         words::CLEAR => calls::clear(c, r.a),
         words::TICK => calls::tick(c, r.a),

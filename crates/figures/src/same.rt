@@ -5,7 +5,9 @@ pub fn controllers(a: Controller, b: Controller) -> bool {
     let mut same = a.settings.rated.0 == b.settings.rated.0;
     same &= a.settings.pause.0 == b.settings.pause.0;
     same &= a.settings.ventilation == b.settings.ventilation;
+    same &= a.settings.digital == b.settings.digital;
     same &= a.limit.0 == b.limit.0;
+    same &= a.grant.0 == b.grant.0;
     same &= a.wave == b.wave;
     same &= a.closed == b.closed;
     same &= a.settled == b.settled;

@@ -1,6 +1,6 @@
 // The words of a row, each as the number that its last eight letters make in ASCII: `printf tick | tail -c 8 | xxd -p` writes it.
 
-// Calls, and a begin's ventilation.
+// Calls, and a begin's ventilation and mark.
 pub const BEGIN: u64 = 0x626567696e;
 
 pub const SAMPLE: u64 = 0x73616d706c65;
@@ -11,6 +11,8 @@ pub const LIMIT: u64 = 0x6c696d6974;
 
 pub const MEASURE: u64 = 0x6d656173757265;
 
+pub const LINK: u64 = 0x6c696e6b;
+
 pub const FAULT: u64 = 0x6661756c74;
 
 pub const CLEAR: u64 = 0x636c656172;
@@ -20,6 +22,10 @@ pub const TICK: u64 = 0x7469636b;
 pub const YES: u64 = 0x796573;
 
 pub const NO: u64 = 0x6e6f;
+
+pub const DIGITAL: u64 = 0x6469676974616c;
+
+pub const PLAIN: u64 = 0x706c61696e;
 
 // Single functions.
 pub const AVAILABLE: u64 = 0x7661696c61626c65;
@@ -41,10 +47,12 @@ pub const WITH: u64 = 0x77697468;
 
 pub const ZEROED: u64 = 0x7a65726f6564;
 
-// A field to alter; LIMIT and SOUND are fields too.
+// A field to alter; LIMIT, SOUND and DIGITAL are fields too.
 pub const RATED: u64 = 0x7261746564;
 
 pub const PAUSE: u64 = 0x7061757365;
+
+pub const GRANT: u64 = 0x6772616e74;
 
 pub const WAVE: u64 = 0x77617665;
 

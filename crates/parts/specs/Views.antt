@@ -25,14 +25,14 @@ asPrevious p = record { kept = p .kept; verdict = p .verdict }
 abbrev pub asPair : Pair → pairs.Pair
 asPair p = record { sampled = p .sampled; this = p .this; previous = asPrevious (p .previous) }
 
--- rated, pause and ventilation
+-- rated, pause, ventilation and mark
 abbrev pub asSettings : Settings → state.Settings
-asSettings s = record { rated = s .rated .0; pause = s .pause .0; ventilation = s .ventilation }
+asSettings s = record { rated = s .rated .0; pause = s .pause .0; ventilation = s .ventilation; digital = s .digital }
 
 -- begin's values, the pause as it is given
 abbrev pub beginsWith : Millis → Settings → begins.Begin
 beginsWith time given =
-    record { time = time .0; rated = given .rated .0; pause = given .pause .0; ventilation = given .ventilation }
+    record { time = time .0; rated = given .rated .0; pause = given .pause .0; ventilation = given .ventilation; digital = given .digital }
 
 -- the latched faults
 abbrev pub asFaults : Faults → state.Faults

@@ -21,7 +21,7 @@ fn line_allowed(current: Milliamps) -> bool
 }
 
 // Of two currents: the first if told so, else the second.
-fn pick_current(first: bool, a: Milliamps, b: Milliamps) -> Milliamps
+pub fn pick_current(first: bool, a: Milliamps, b: Milliamps) -> Milliamps
     ensures { λ r. ⌜ r .0 ≡ cond first (a .0) (b .0) ⌝ }
 {
     if first { a } else { b }

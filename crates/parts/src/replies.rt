@@ -57,10 +57,9 @@ fn digit_by(without: bool, driven: bool) -> u8
 }
 
 // 0 for U, E and F, else 2 with a driven wave and 1 without.
-pub fn digit(letter: u8, wave: u32) -> u8
-    ensures { λ r. ⌜ r ≡ digit letter wave ⌝ }
+pub fn digit(letter: u8, driven: bool) -> u8
+    ensures { λ r. ⌜ r ≡ digit letter driven ⌝ }
 {
-    let driven = units::driven(wave);
     let u = letter == b'U';
     let e = letter == b'E';
     let f = letter == b'F';

@@ -8,13 +8,15 @@ ghost use lib.Dec.{eqb};
 ghost use Rattle.rules.specs.Begin.{ratedAllowed, pauseAllowed, pauseFor, inForce};
 ghost use Rattle.parts.specs.Views.{asSettings};
 
-// The pause stands first, so that these take 16 bytes and the controller 128.
+// The pause stands first, so that these take 16 bytes.
 #[repr(C)]
 pub struct Settings {
     // In a controller, as it is in force; as given to begin, 0 asks for 10,000.
     pub pause: Millis,
     pub rated: Milliamps,
     pub ventilation: bool,
+    // The mark: a digital post, or else a plain one.
+    pub digital: bool,
 }
 
 pub fn rated_allowed(rated: Milliamps) -> bool
@@ -59,5 +61,6 @@ pub fn in_force(given: Settings) -> Settings
         rated: rated,
         pause: pause,
         ventilation: given.ventilation,
+        digital: given.digital,
     }
 }

@@ -36,20 +36,18 @@ fn diode_bad_by(driven: bool, bcd: bool, low: bool) -> bool
 }
 
 // Sound: high as a charging van holds it, with a margin; while the wave is driven, low in its band too.
-pub fn sound(wave: u32, high: Millivolts, low: Millivolts) -> bool
-    ensures { λ r. ⌜ r ≡ sound wave (high .0) (low .0) ⌝ }
+pub fn sound(driven: bool, high: Millivolts, low: Millivolts) -> bool
+    ensures { λ r. ⌜ r ≡ sound driven (high .0) (low .0) ⌝ }
 {
     let between = high.strictly_between(Millivolts(1500), Millivolts(7500));
-    let driven = units::driven(wave);
     let low_in_band = bands::in_low_band(low);
     sound_by(between, driven, low_in_band)
 }
 
 // Proven: a driven wave shows both a ready van and its diode.
-pub fn proven(wave: u32, high: Millivolts, low: Millivolts, ventilation: bool) -> bool
-    ensures { λ r. ⌜ r ≡ proven wave (high .0) (low .0) ventilation ⌝ }
+pub fn proven(driven: bool, high: Millivolts, low: Millivolts, ventilation: bool) -> bool
+    ensures { λ r. ⌜ r ≡ proven driven (high .0) (low .0) ventilation ⌝ }
 {
-    let driven = units::driven(wave);
     let band = bands::band(high);
     let ready = bands::ready(band, ventilation);
     let low_in_band = bands::in_low_band(low);
@@ -57,24 +55,23 @@ pub fn proven(wave: u32, high: Millivolts, low: Millivolts, ventilation: bool) -
 }
 
 // Diode-bad: a driven wave shows a van that is plugged in, and no diode.
-pub fn diode_bad(wave: u32, high: Millivolts, low: Millivolts) -> bool
-    ensures { λ r. ⌜ r ≡ diodeBad wave (high .0) (low .0) ⌝ }
+pub fn diode_bad(driven: bool, high: Millivolts, low: Millivolts) -> bool
+    ensures { λ r. ⌜ r ≡ diodeBad driven (high .0) (low .0) ⌝ }
 {
-    let driven = units::driven(wave);
     let band = bands::band(high);
     let bcd = bands::is_b_c_or_d(band);
     let low_in_band = bands::in_low_band(low);
     diode_bad_by(driven, bcd, low_in_band)
 }
 
-// The band and the verdicts of a sample, under the wave commanded before it.
-pub fn judge(wave: u32, high: Millivolts, low: Millivolts, ventilation: bool) -> Verdict
-    ensures { λ r. ⌜ r ≡ verdictOf wave (high .0) (low .0) ventilation ⌝ }
+// The band and the verdicts of a sample, by whether the wave commanded before it is driven.
+pub fn judge(driven: bool, high: Millivolts, low: Millivolts, ventilation: bool) -> Verdict
+    ensures { λ r. ⌜ r ≡ verdictOf driven (high .0) (low .0) ventilation ⌝ }
 {
     let band = bands::band(high);
-    let is_sound = sound(wave, high, low);
-    let is_proven = proven(wave, high, low, ventilation);
-    let is_bad = diode_bad(wave, high, low);
+    let is_sound = sound(driven, high, low);
+    let is_proven = proven(driven, high, low, ventilation);
+    let is_bad = diode_bad(driven, high, low);
     Verdict {
         band: band,
         sound: is_sound,

@@ -27,7 +27,7 @@ pub count-in-range : (lent : Lent) (call : EvaluatedCall) → eqb (lentRefusal l
 unfolding lentRefusal altered
 count-in-range lent call e =
     go (inRange (lent .state)) (leb (lent .closings) mostClosings) refl
-    (neither (cond (altered lent) 1 0) (argumentRefusal (call .event)) (is-none (neither (timeRefusal (lent .state .last) (call .time)) _ e .1)) .0)
+    (neither (cond (altered lent) 1 0) (argumentRefusal (lent .state .settings .digital) (call .event)) (is-none (neither (timeRefusal (lent .state .last) (call .time)) _ e .1)) .0)
   where
     is-none : {n : ℕ} → n ≡ 0 → eqb n 0 ≡ true
     is-none p = ap (λ m. eqb m 0) p
@@ -38,11 +38,11 @@ count-in-range lent call e =
     go false few p q = absurd (omega arith)
 
 module _ (s : State) (call : EvaluatedCall) (into : isAccepted s call ≡ true) where
-  both : (timeRefusal (s .last) (call .time) ≡ 0) × (argumentRefusal (call .event) ≡ 0)
+  both : (timeRefusal (s .last) (call .time) ≡ 0) × (argumentRefusal (s .settings .digital) (call .event) ≡ 0)
   unfolding refusal
-  both = neither (timeRefusal (s .last) (call .time)) (argumentRefusal (call .event)) into
+  both = neither (timeRefusal (s .last) (call .time)) (argumentRefusal (s .settings .digital) (call .event)) into
 
-  pub arguments-right : argumentRefusal (call .event) ≡ 0
+  pub arguments-right : argumentRefusal (s .settings .digital) (call .event) ≡ 0
   arguments-right = both .1
 
   pub on-time : (s .last ≤ call .time) × (call .time ≤ largestTime)

@@ -3,7 +3,7 @@ use native.Mathlib.Omega.{arith}
 use Rattle.rules.specs.Claim.{Trace, Demand3}
 use Rattle.rules.proofs.Exactly.{exactly}
 use Rattle.rules.proofs.Lawful.{Memory, Lawful}
-use Rattle.rules.proofs.Remembered.{proves}
+use Rattle.rules.proofs.Remembered.{closing-meets, proves}
 use Rattle.rules.proofs.Pauses.{pauses}
 use Rattle.rules.proofs.Spacing.{counts, at-most, spans}
 
@@ -12,6 +12,7 @@ demand3-of t memory laws =
     record {
       exactly = exactly t memory laws;
       proves = proves t memory laws;
+      grants = λ digital k closing. closing-meets t memory laws k closing .1 .granted digital;
       pauses = pauses t memory laws;
       counts = counts t memory laws (t .length) (omega arith);
       at-most = at-most t memory laws (t .length) (omega arith);

@@ -1,38 +1,21 @@
 -- Every list of calls after an accepted begin.
 use mathlib.Core.Path.{_≡_, refl, sym, _∙_, ap}
-use mathlib.Core.Bool.{Bool, true, false, cond}
-use mathlib.Core.List.{List, [], _∷_}
+use mathlib.Core.List.{List}
 use Prim.Native.Nat.{ℕ, zero, suc}
 use native.Mathlib.Omega.{arith}
 use lib.ListN.{length, take}
 use Rattle.rules.specs.Begin.{Begin, beginRefusal, fresh}
-use Rattle.rules.specs.Calls.{Call, evaluatedCall, inTurn}
+use Rattle.rules.specs.Calls.{Call}
 use Rattle.rules.specs.Claim.{Trace, leastPause}
 use Rattle.rules.specs.EveryList.{EveryList}
 use Rattle.rules.specs.Lent.{altered, lentRefusal}
-use Rattle.rules.specs.Replay.{isAccepted, step, replay}
-use Rattle.rules.specs.State.{State}
-use Rattle.rules.specs.Traces.{before, callAt, replyBefore, answered}
+use Rattle.rules.specs.Traces.{callAt, replyBefore, answered}
 use Rattle.rules.proofs.Every20.{closed-is-sound}
 use Rattle.rules.proofs.LastMeasured.{last-measured}
 use Rattle.rules.proofs.LentReplies.{lent-refusal, lent-is, tally-not-altered, reply-is, contactor-told, closings-told, demand3}
-use Rattle.rules.proofs.OverCurrent.{over-current}
+use Rattle.rules.proofs.OverCurrent.{over-current, digital-lowers-none}
 use Rattle.rules.proofs.Reaching.{list-reaches}
-use Rattle.rules.proofs.Stepped.{step-to}
-
--- no call changes the settings
-settings-kept : (s : State) (calls : List Call) → inTurn step s calls .settings ≡ s .settings
-unfolding inTurn
-settings-kept s [] = refl
-settings-kept s (call ∷ calls) = settings-kept (step s (evaluatedCall call)) calls ∙ step-to s (evaluatedCall call) (λ x. x .settings) (s .settings) refl ∙ same (isAccepted s (evaluatedCall call))
-  where
-    same : (a : Bool) → cond a (s .settings) (s .settings) ≡ s .settings
-    same true = refl
-    same false = refl
-
-settings-are : (begin : Begin) (calls : List Call) (k : ℕ) → before begin calls k .settings ≡ fresh begin .settings
-unfolding replay
-settings-are begin calls k = settings-kept (fresh begin) (take k calls)
+use Rattle.rules.proofs.Stepped.{settings-are}
 
 -- the least of pauses that are all the same
 least-is : (t : Trace) (n pause : ℕ) → ((k : ℕ) → t .pause k ≡ pause) → leastPause t n ≡ pause
@@ -50,6 +33,7 @@ every-list begin calls accepted =
       lines-are = λ k within.
           rw (reply-is begin calls accepted (λ l. l .state .lines) (λ k. replyBefore begin calls k .lines) refl (λ k. refl) k within) (last-measured begin calls k within);
       over-current = over-current begin calls accepted;
+      digital-lowers-none = digital-lowers-none begin calls;
       states-are = λ k within. ap (λ l. l .state) (lent-is begin calls accepted k within);
       held = λ k within. ap (λ l. l .state .closed) (lent-is begin calls accepted k within) ∙ sym (contactor-told begin calls accepted k within);
       carried = λ k within. ap (λ l. l .closings) (lent-is begin calls accepted k within) ∙ sym (closings-told begin calls accepted k within);

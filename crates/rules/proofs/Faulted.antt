@@ -9,7 +9,7 @@ use Rattle.units.specs.Range.{fromTo}
 use Rattle.units.proofs.LevelOrder.{and-parts}
 use Rattle.window.specs.Evaluation.{Evaluation}
 use Rattle.rules.specs.Accepted.{pairAt, unsettlesAt, afterEvent, accept}
-use Rattle.rules.specs.Calls.{Event, sample, limit, measure, fault, clear, tick, EvaluatedCall, isFault}
+use Rattle.rules.specs.Calls.{Event, sample, limit, measure, link, fault, clear, tick, EvaluatedCall, isFault}
 use Rattle.rules.specs.Pairs.{Pair, bothDiodeBad}
 use Rattle.rules.specs.Refusals.{kindAllowed, argumentRefusal}
 use Rattle.rules.specs.Replay.{isAccepted}
@@ -63,18 +63,19 @@ module _ (time : ℕ) (pair : Pair) (s : State) where
   current-latches e = second-of (s .faults .diode || bothDiodeBad pair) (s .faults .overcurrent) (overCurrent time s) _ e
 
 -- a fault call latches a fault
-kind-latches : (time : ℕ) (pair : Pair) (s : State) (event : Event Evaluation) (f : Faults) → argumentRefusal event ≡ 0 → isFault event ≡ true
+kind-latches : (time : ℕ) (pair : Pair) (s : State) (digital : Bool) (event : Event Evaluation) (f : Faults) → argumentRefusal digital event ≡ 0 → isFault event ≡ true
     → s .faults ≡ faultsBy event f → anyFault (latched time pair s) ≡ true
 unfolding argumentRefusal faultsBy withKind anyFault latched overCurrent
-kind-latches time pair s (fault kind) f right is same =
+kind-latches time pair s digital (fault kind) f right is same =
     rw same
     (any-of (f .diode || bothDiodeBad pair) (f .overcurrent || overCurrent time s) (f .residual) (f .welded) (f .temperature) _ _ _
     (kind-is kind (not-refused (kindAllowed kind) 8 (omega arith) right)))
-kind-latches time pair s (sample window) f right is same = clash refl (sym is)
-kind-latches time pair s (limit given) f right is same = clash refl (sym is)
-kind-latches time pair s (measure lines) f right is same = clash refl (sym is)
-kind-latches time pair s clear f right is same = clash refl (sym is)
-kind-latches time pair s tick f right is same = clash refl (sym is)
+kind-latches time pair s digital (sample window) f right is same = clash refl (sym is)
+kind-latches time pair s digital (limit given) f right is same = clash refl (sym is)
+kind-latches time pair s digital (measure lines) f right is same = clash refl (sym is)
+kind-latches time pair s digital (link granted) f right is same = clash refl (sym is)
+kind-latches time pair s digital clear f right is same = clash refl (sym is)
+kind-latches time pair s digital tick f right is same = clash refl (sym is)
 
 pub unsettled-fault : (s : State) (call : EvaluatedCall) → isAccepted s call ≡ true → unsettlesAt s call ≡ true → anyFault (accept s call .faults) ≡ true
 unfolding unsettles
@@ -82,7 +83,7 @@ unsettled-fault s call into e = go (isFault (call .event)) (bothDiodeBad (pairAt
   where
     go : (a b c : Bool) → isFault (call .event) ≡ a → bothDiodeBad (pairAt s call) ≡ b → overCurrent (call .time) (afterEvent s call) ≡ c
         → a || (b || c) ≡ true → anyFault (accept s call .faults) ≡ true
-    go true b c p q r f = kind-latches (call .time) (pairAt s call) (afterEvent s call) (call .event) (s .faults) (arguments-right s call into) p refl
+    go true b c p q r f = kind-latches (call .time) (pairAt s call) (afterEvent s call) (s .settings .digital) (call .event) (s .faults) (arguments-right s call into) p refl
     go false true c p q r f = diode-latches (call .time) (pairAt s call) (afterEvent s call) q
     go false false true p q r f = current-latches (call .time) (pairAt s call) (afterEvent s call) r
     go false false false p q r f = clash refl (sym f)

@@ -8,7 +8,7 @@ use native.Mathlib.Omega.{arith}
 use lib.IntN.{ℤ}
 use lib.ListN.{length, getD}
 use Rattle.rules.specs.Begin.{Begin, fresh}
-use Rattle.rules.specs.Calls.{Event, Call, EvaluatedCall, sample, limit, measure, fault, clear, tick, evaluated, isMeasure, inTurn}
+use Rattle.rules.specs.Calls.{Event, Call, EvaluatedCall, sample, limit, measure, link, fault, clear, tick, evaluated, isMeasure, inTurn}
 use Rattle.rules.specs.LastMeasured.{Measures, NoneFrom, LastMeasured, by-measure, not-yet}
 use Rattle.rules.specs.Lines.{Lines, noCurrents}
 use Rattle.rules.specs.Replay.{isAccepted, replay}
@@ -60,6 +60,7 @@ module _ (begin : Begin) (calls : List Call) where
             rw same (by-measure k (omega arith) (record { below = below; brings = is; accepted = into }) (λ i given from before. absurd (omega arith)))
         go true (sample window) into is same = longer same (other (sample window) is refl) known
         go true (limit current) into is same = longer same (other (limit current) is refl) known
+        go true (link granted) into is same = longer same (other (link granted) is refl) known
         go true (fault kind) into is same = longer same (other (fault kind) is refl) known
         go true clear into is same = longer same (other clear is refl) known
         go true tick into is same = longer same (other tick is refl) known

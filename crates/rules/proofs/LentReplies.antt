@@ -31,7 +31,7 @@ pub lent-refusal : (lent : Lent) (call : EvaluatedCall) → altered lent ≡ fal
 unfolding lentRefusal refusal
 lent-refusal lent call e = rw e
 
-next-by : (lent : Lent) (call : EvaluatedCall) (a : Bool) → eqb (lentRefusal lent call) 0 ≡ a → next lent call ≡ cond a (acceptLent lent call) lent
+pub next-by : (lent : Lent) (call : EvaluatedCall) (a : Bool) → eqb (lentRefusal lent call) 0 ≡ a → next lent call ≡ cond a (acceptLent lent call) lent
 unfolding next
 next-by lent call a e = ap (λ b. cond b (acceptLent lent call) lent) e
 

@@ -21,6 +21,9 @@ pub mod Faulted
 pub mod Offering
 pub mod Opened
 pub mod Held
+pub mod Grants
+pub mod NotOpened
+pub mod Stops
 pub mod Reaching
 pub mod Every20
 pub mod LastMeasured
@@ -32,5 +35,5 @@ pub mod EveryList
 pub mod Altered
 pub mod RefusalsAre
 pub mod BeginRefusals
-pub mod NotOpened
+pub mod PlainPost
 pub mod rows

@@ -3,12 +3,12 @@ use mathlib.Core.Path.{_≡_, refl}
 use mathlib.Core.Bool.{Bool, true, false}
 use mathlib.Core.List.{List, [], _∷_}
 use Rattle.units.specs.Range.{fromTo}
-use Rattle.units.specs.Wave.{driven}
+use Rattle.units.specs.Wave.{driven, steadyHigh}
 use Rattle.rules.specs.Accepted.{accept}
 use Rattle.rules.specs.Begin.{Begin, beginRefusal, fresh}
 use Rattle.rules.specs.Calls.{Call, EvaluatedCall, evaluatedCall, inTurn}
-use Rattle.rules.specs.Lent.{waveAllowed, storedAllowed}
-use Rattle.rules.specs.Refusals.{limitAllowed}
+use Rattle.rules.specs.Lent.{drivenAllowed, waveAllowed, storedAllowed}
+use Rattle.rules.specs.Refusals.{limitAllowed, grantAllowed}
 use Rattle.rules.specs.Replay.{isAccepted, step, replay}
 use Rattle.rules.specs.State.{State}
 use Rattle.rules.proofs.Acceptance.{begins}
@@ -32,13 +32,19 @@ module _ (Holds : State → Type 0) (keeps : (s : State) (call : EvaluatedCall) 
   unfolding replay
   replay-keeps begin calls holds = after-keeps (fresh begin) calls holds
 
+high-allowed : (digital : Bool) → waveAllowed digital steadyHigh ≡ true
+unfolding waveAllowed drivenAllowed driven fromTo
+high-allowed true = refl
+high-allowed false = refl
+
 pub fresh-in-range : (begin : Begin) → beginRefusal begin ≡ 0 → InRange (fresh begin)
-unfolding fresh waveAllowed driven fromTo limitAllowed storedAllowed
+unfolding fresh limitAllowed grantAllowed storedAllowed
 fresh-in-range begin accepted =
     let known = begins begin accepted in
     record {
-      wave = refl;
+      wave = high-allowed (begin .digital);
       limit = refl;
+      grant = refl;
       rated = known .rated-right;
       pause = known .pause-right;
       sound = refl;

@@ -5,13 +5,12 @@ use Prim.Native.Nat.{ℕ, _+_}
 use native.Mathlib.Omega.{arith}
 use lib.Dec.{eqb, ltb}
 use borrow.Author.Tests.{eqb-true, ltb-true, not-true}
-use Rattle.units.specs.Range.{fromTo}
-use Rattle.units.specs.Wave.{driven, steadyHigh}
+use Rattle.units.specs.Wave.{drivenIn, steadyHigh}
 use Rattle.units.proofs.LevelOrder.{and-parts}
 use Rattle.rules.specs.Accepted.{pairAt, causeAt, opensAt, afterWave, accept}
 use Rattle.rules.specs.Calls.{EvaluatedCall}
 use Rattle.rules.specs.Pairs.{paired, bothUnsound}
-use Rattle.rules.specs.State.{State, Moment, anyFault, empty, setTo, startedBy}
+use Rattle.rules.specs.State.{State, Moment, anyFault, isDriven, empty, setTo, startedBy}
 use Rattle.rules.specs.Step1Event.{soundBy}
 use Rattle.rules.specs.Step2Latches.{ranFor}
 use Rattle.rules.specs.Step3Wave.{unventilatedD, stopUnder}
@@ -20,19 +19,20 @@ use Rattle.rules.proofs.Booleans.{clash}
 use Rattle.rules.proofs.Offering.{driven-offers}
 use Rattle.rules.proofs.OneCall.{ProvenPair}
 use Rattle.rules.proofs.Samples.{verdict-sound}
+use Rattle.rules.proofs.Waves.{high-not-driven}
 
 -- under a driven wave no stop runs
-no-stop-driven : (time wave : ℕ) (closed : Bool) (stop : Moment) → driven wave ≡ true → stopUnder time wave closed stop ≡ empty
-unfolding stopUnder driven fromTo
-no-stop-driven time wave closed stop e = go (closed && eqb wave steadyHigh) refl
+pub no-stop-driven : (digital : Bool) (time wave : ℕ) (closed : Bool) (stop : Moment) → drivenIn digital wave ≡ true → stopUnder digital time wave closed stop ≡ empty
+unfolding stopUnder
+no-stop-driven digital time wave closed stop e = go (closed && eqb wave steadyHigh) refl
   where
-    go : (b : Bool) → closed && eqb wave steadyHigh ≡ b → cond b (startedBy time stop) (cond (driven wave) empty stop) ≡ empty
+    go : (b : Bool) → closed && eqb wave steadyHigh ≡ b → cond b (startedBy time stop) (cond (drivenIn digital wave) empty stop) ≡ empty
     go true p =
         let is = eqb-true wave steadyHigh (and-parts closed (eqb wave steadyHigh) p .1) in
-        clash (ap driven (sym is) ∙ e) refl
+        clash (ap (drivenIn digital) (sym is) ∙ e) (high-not-driven digital)
     go false p = ap (λ b. cond b empty stop) e
 
-module _ (s : State) (call : EvaluatedCall) (wave : driven (accept s call .wave) ≡ true) (pair : ProvenPair (pairAt s call)) where
+module _ (s : State) (call : EvaluatedCall) (wave : isDriven (accept s call) ≡ true) (pair : ProvenPair (pairAt s call)) where
   own-sound : accept s call .sound ≡ setTo (call .time)
   unfolding soundBy
   own-sound = rw (pair .sampled, verdict-sound s (call .event) (pair .second-proven))
@@ -60,7 +60,7 @@ module _ (s : State) (call : EvaluatedCall) (wave : driven (accept s call .wave)
   no-cause4 : cause4 (call .time) (afterWave s call) ≡ true → ⊥
   unfolding cause4 ranFor
   no-cause4 e =
-      let none = no-stop-driven (call .time) (accept s call .wave) (s .closed) (s .stop) wave in
+      let none = no-stop-driven (s .settings .digital) (call .time) (accept s call .wave) (s .closed) (s .stop) wave in
       clash e (ap (λ m. ranFor 3000 (call .time) m) none)
 
   pub proven-not-opened : opensAt s call ≡ true → ⊥

@@ -7,15 +7,15 @@ use native.Mathlib.Omega.{arith}
 use lib.Dec.{eqb, leb}
 use borrow.Author.Tests.{leb-true, eqb-true, eqb-false}
 use Rattle.units.specs.Range.{fromTo}
-use Rattle.units.specs.Wave.{driven, steadyLow, steadyHigh}
+use Rattle.units.specs.Wave.{fivePercent, drivenIn, steadyLow, steadyHigh}
 use Rattle.duty.specs.DutyFor.{IsGreatest}
 use Rattle.pilot.specs.Bands.{bandA, bandB, bandC, bandD, bandE, ready}
 use Rattle.rules.specs.Accepted.{afterLatch, accept}
 use Rattle.rules.specs.Calls.{fault, EvaluatedCall}
-use Rattle.rules.specs.State.{State, anyFault}
+use Rattle.rules.specs.State.{State, anyFault, isDriven}
 use Rattle.rules.specs.Step3Wave.{isSettled, isUAE, available}
 use Rattle.rules.proofs.Booleans.{clash}
-use Rattle.rules.proofs.Waves.{Offers, WaveIs, low, high, square, wave-is, greatest-driven}
+use Rattle.rules.proofs.Waves.{high-not-driven, low-not-driven, allowed-driven, Offers, DrivenIs, WaveIs, low, high, square, wave-is}
 
 -- the settled states for which a duty is sent
 pub offered : (settled : ℕ) (ventilation : Bool) → isUAE settled ≡ false → eqb settled bandD && not ventilation ≡ false
@@ -51,45 +51,50 @@ offered settled ventilation state plain =
 -- the wave of an accepted call, and what it tells
 module _ (s : State) (call : EvaluatedCall) where
   pub wave-low-exactly : (accept s call .wave ≡ steadyLow) ↔ (anyFault (accept s call .faults) ≡ true)
-  unfolding driven fromTo
   wave-low-exactly = (λ is. to (wave-is (afterLatch s call)) is, λ fault. from (wave-is (afterLatch s call)) fault)
     where
       to : WaveIs (afterLatch s call) (accept s call .wave) → accept s call .wave ≡ steadyLow → anyFault (accept s call .faults) ≡ true
       to (low is has) e = has
       to (high is none) e = let zero : 1000 ≡ steadyLow = sym is ∙ e in absurd (omega arith)
-      to (square is none offer) e = clash (ap driven (sym e) ∙ greatest-driven (available (afterLatch s call)) (accept s call .wave) is) refl
+      to (square is none offer) e = clash (ap (drivenIn (s .settings .digital)) (sym e) ∙ allowed-driven (s .settings .digital) (accept s call .wave) (is .in-range)) (low-not-driven (s .settings .digital))
 
       from : WaveIs (afterLatch s call) (accept s call .wave) → anyFault (accept s call .faults) ≡ true → accept s call .wave ≡ steadyLow
       from (low is has) e = is
       from (high is none) e = clash e none
       from (square is none offer) e = clash e none
 
-  -- 0, 1000 or driven, and driven the greatest allowed duty
-  pub wave-kinds : (accept s call .wave ≡ steadyLow) ⊎ ((accept s call .wave ≡ steadyHigh) ⊎ (driven (accept s call .wave) ≡ true))
+  -- 0, 1000 or driven
+  pub wave-kinds : (accept s call .wave ≡ steadyLow) ⊎ ((accept s call .wave ≡ steadyHigh) ⊎ (isDriven (accept s call) ≡ true))
   wave-kinds = go (wave-is (afterLatch s call))
     where
       go : WaveIs (afterLatch s call) (accept s call .wave)
-          → (accept s call .wave ≡ steadyLow) ⊎ ((accept s call .wave ≡ steadyHigh) ⊎ (driven (accept s call .wave) ≡ true))
+          → (accept s call .wave ≡ steadyLow) ⊎ ((accept s call .wave ≡ steadyHigh) ⊎ (isDriven (accept s call) ≡ true))
       go (low is has) = inl is
       go (high is none) = inr (inl is)
-      go (square is none offer) = inr (inr (greatest-driven (available (afterLatch s call)) (accept s call .wave) is))
+      go (square is none offer) = inr (inr (allowed-driven (s .settings .digital) (accept s call .wave) (is .in-range)))
 
-  pub driven-greatest : driven (accept s call .wave) ≡ true → IsGreatest (available (accept s call)) (accept s call .wave)
-  unfolding driven fromTo available
-  driven-greatest e = go (wave-is (afterLatch s call)) e
+  -- driven, it is the one of the post's mark
+  driven-by-mark : isDriven (accept s call) ≡ true → DrivenIs (afterLatch s call) (accept s call .wave)
+  driven-by-mark e = go (wave-is (afterLatch s call)) e
     where
-      go : WaveIs (afterLatch s call) (accept s call .wave) → driven (accept s call .wave) ≡ true
-          → IsGreatest (available (accept s call)) (accept s call .wave)
-      go (low is has) f = clash f (ap driven is)
-      go (high is none) f = clash f (ap driven is)
+      go : WaveIs (afterLatch s call) (accept s call .wave) → isDriven (accept s call) ≡ true
+          → DrivenIs (afterLatch s call) (accept s call .wave)
+      go (low is has) f = clash f (ap (drivenIn (s .settings .digital)) is ∙ low-not-driven (s .settings .digital))
+      go (high is none) f = clash f (ap (drivenIn (s .settings .digital)) is ∙ high-not-driven (s .settings .digital))
       go (square is none offer) f = is
 
-  pub driven-offers : driven (accept s call .wave) ≡ true → (anyFault (accept s call .faults) ≡ false) × Offers (afterLatch s call)
-  unfolding driven fromTo
+  pub driven-greatest : s .settings .digital ≡ false → isDriven (accept s call) ≡ true → IsGreatest (available (accept s call)) (accept s call .wave)
+  unfolding available
+  driven-greatest plain e = driven-by-mark e .of-plain plain
+
+  pub driven-five : s .settings .digital ≡ true → isDriven (accept s call) ≡ true → accept s call .wave ≡ fivePercent
+  driven-five digital e = driven-by-mark e .of-digital digital
+
+  pub driven-offers : isDriven (accept s call) ≡ true → (anyFault (accept s call .faults) ≡ false) × Offers (afterLatch s call)
   driven-offers e = go (wave-is (afterLatch s call)) e
     where
-      go : WaveIs (afterLatch s call) (accept s call .wave) → driven (accept s call .wave) ≡ true
+      go : WaveIs (afterLatch s call) (accept s call .wave) → isDriven (accept s call) ≡ true
           → (anyFault (accept s call .faults) ≡ false) × Offers (afterLatch s call)
-      go (low is has) f = clash f (ap driven is)
-      go (high is none) f = clash f (ap driven is)
+      go (low is has) f = clash f (ap (drivenIn (s .settings .digital)) is ∙ low-not-driven (s .settings .digital))
+      go (high is none) f = clash f (ap (drivenIn (s .settings .digital)) is ∙ high-not-driven (s .settings .digital))
       go (square is none offer) f = (none, offer)

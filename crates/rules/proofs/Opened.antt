@@ -2,11 +2,11 @@
 use mathlib.Core.Path.{_≡_, refl, sym, _∙_, ap}
 use mathlib.Core.Bool.{Bool, true, false, _&&_, _||_, not, cond}
 use Prim.Native.Nat.{ℕ}
-use Rattle.units.specs.Wave.{driven}
+use Rattle.units.specs.Wave.{drivenIn}
 use Rattle.window.specs.Evaluation.{Evaluation}
 use Rattle.rules.specs.Accepted.{opensAt, closesAt, afterLatch, afterWave, accept}
-use Rattle.rules.specs.Calls.{Event, sample, limit, measure, fault, clear, tick, EvaluatedCall}
-use Rattle.rules.specs.State.{State, Moment, empty, setTo}
+use Rattle.rules.specs.Calls.{Event, sample, limit, measure, link, fault, clear, tick, EvaluatedCall}
+use Rattle.rules.specs.State.{State, Moment, isDriven, empty, setTo}
 use Rattle.rules.specs.Step1Event.{overrunAt, overrunBy}
 use Rattle.rules.specs.Step3Wave.{waveFor, lowersDuty, restarts, overrunUnder, stopUnder}
 use Rattle.rules.proofs.Booleans.{clash}
@@ -22,18 +22,19 @@ module _ (s : State) (time : ℕ) (was : s .closed ≡ false) where
   overrun-open (sample window) = refl
   overrun-open (limit given) = refl
   overrun-open (measure lines) = rw was
+  overrun-open (link granted) = refl
   overrun-open (fault kind) = refl
   overrun-open clear = refl
   overrun-open tick = refl
 
-  stop-open : (wave : ℕ) → s .stop .set ≡ false → stopUnder time wave (s .closed) (s .stop) .set ≡ false
+  stop-open : (wave : ℕ) → s .stop .set ≡ false → stopUnder (s .settings .digital) time wave (s .closed) (s .stop) .set ≡ false
   unfolding stopUnder
-  stop-open wave none = rw was (either-unset (driven wave) empty (s .stop) refl none)
+  stop-open wave none = rw was (either-unset (drivenIn (s .settings .digital) wave) empty (s .stop) refl none)
 
 -- with none that runs a lowered duty starts none
-pub none-restarts : (old wave time : ℕ) (m : Moment) → m .set ≡ false → cond (restarts old wave m) (setTo time) m .set ≡ false
+pub none-restarts : (digital : Bool) (old wave time : ℕ) (m : Moment) → m .set ≡ false → cond (restarts digital old wave m) (setTo time) m .set ≡ false
 unfolding restarts
-none-restarts old wave time m none = go (lowersDuty old wave)
+none-restarts digital old wave time m none = go (lowersDuty digital old wave)
   where
     go : (b : Bool) → cond (b && m .set) (setTo time) m .set ≡ false
     go true = rw none
@@ -61,8 +62,8 @@ module _ (s : State) (call : EvaluatedCall) where
       go (by-call o) = ap (λ b. cond b empty (afterWave s call .overrun) .set) o
       go (from-before o c) =
           either-unset (opensAt s call) empty (afterWave s call .overrun) refl
-          (either-unset (driven (waveFor (afterLatch s call))) _ empty
-          (none-restarts (s .wave) (waveFor (afterLatch s call)) (call .time) (overrunBy (call .time) (call .event) s)
+          (either-unset (isDriven (accept s call)) _ empty
+          (none-restarts (s .settings .digital) (s .wave) (waveFor (afterLatch s call)) (call .time) (overrunBy (call .time) (call .event) s)
           (ap (λ m. m .set) (overrun-open s (call .time) c (call .event)) ∙ before c)) refl)
 
   pub no-stop : (s .closed ≡ false → s .stop .set ≡ false) → accept s call .closed ≡ false → accept s call .stop .set ≡ false
@@ -73,16 +74,16 @@ module _ (s : State) (call : EvaluatedCall) where
       go (from-before o c) =
           either-unset (opensAt s call) empty (afterWave s call .stop) refl (stop-open s (call .time) c (waveFor (afterLatch s call)) (before c))
 
-  pub runs-driven : accept s call .overrun .set ≡ true → driven (accept s call .wave) ≡ true
+  pub runs-driven : accept s call .overrun .set ≡ true → isDriven (accept s call) ≡ true
   unfolding overrunUnder
-  runs-driven e = go (opensAt s call) (driven (accept s call .wave)) refl e
+  runs-driven e = go (opensAt s call) (isDriven (accept s call)) refl e
     where
       began : Moment
       began = overrunBy (call .time) (call .event) s
 
-      go : (o d : Bool) → driven (accept s call .wave) ≡ d
-          → cond o empty (cond d (cond (restarts (s .wave) (accept s call .wave) began) (setTo (call .time)) began) empty) .set ≡ true
-          → driven (accept s call .wave) ≡ true
+      go : (o d : Bool) → isDriven (accept s call) ≡ d
+          → cond o empty (cond d (cond (restarts (s .settings .digital) (s .wave) (accept s call .wave) began) (setTo (call .time)) began) empty) .set ≡ true
+          → isDriven (accept s call) ≡ true
       go true d p f = clash refl (sym f)
       go false true p f = p
       go false false p f = clash refl (sym f)

@@ -7,14 +7,14 @@ use native.Mathlib.Decide.{decLt}
 use native.Mathlib.Nat.{not-suc-le-zero}
 use native.Mathlib.Omega.{arith}
 use lib.ListN.{length, take}
-use Rattle.units.specs.Wave.{driven}
+use Rattle.units.specs.Wave.{fivePercent}
 use Rattle.rules.specs.Accepted.{accept}
 use Rattle.rules.specs.Begin.{Begin, beginRefusal}
 use Rattle.rules.specs.Calls.{Call, EvaluatedCall}
 use Rattle.rules.specs.Lines.{Lines}
-use Rattle.rules.specs.OverCurrent.{LatchesTwo, Over, Within, Lowers, OverTooLong, OverCurrentExactly}
+use Rattle.rules.specs.OverCurrent.{LatchesTwo, Over, Within, Lowers, OverTooLong, OverCurrentExactly, DigitalLowersNone}
 use Rattle.rules.specs.Replay.{isAccepted}
-use Rattle.rules.specs.State.{State, Faults, anyFault, setTo}
+use Rattle.rules.specs.State.{State, Faults, anyFault, isDriven, setTo}
 use Rattle.rules.specs.Traces.{before, callAt}
 use Rattle.rules.proofs.Acceptance.{on-time}
 use Rattle.rules.proofs.Booleans.{clash, or-true}
@@ -23,7 +23,7 @@ use Rattle.rules.proofs.Overruns.{restarted, JudgedBy, AboveBound, afte
 use Rattle.rules.proofs.OverrunsAt.{callTime, overrunStart, judged-by, judged-at, lowers-at, next-run}
 use Rattle.rules.proofs.OverrunSince.{Since, since, not-later}
 use Rattle.rules.proofs.Reaching.{list-reaches}
-use Rattle.rules.proofs.Stepped.{accepted-is, refused-is}
+use Rattle.rules.proofs.Stepped.{mark-is, accepted-is, refused-is}
 
 -- fault 2 is one of the faults
 two-any : (faults : Faults) → faults .overcurrent ≡ true → anyFault faults ≡ true
@@ -52,7 +52,7 @@ module _ (begin : Begin) (calls : List Call) (begins : beginRefusal begin ≡ 0)
       -- under fault 2 the wave is 0
       not-lowered : Lowers begin calls k → ⊥
       not-lowered lowers =
-          let wave = sym (ap (λ x. driven (x .wave)) (accepted-is begin calls k (two .below) into)) ∙ lowers .still-driven in
+          let wave = sym (ap (λ x. isDriven x) (accepted-is begin calls k (two .below) into)) ∙ lowers .still-driven in
           clash (two-any (accept found latching .faults) two-is) (driven-offers found latching wave .0)
 
       from-start : (j : ℕ) → Since begin calls begins j k → began k + 5000 ≤ at k → ((lines : Lines) → JudgedBy found latching lines → AboveBound found latching lines)
@@ -132,7 +132,7 @@ module _ (begin : Begin) (calls : List Call) (begins : beginRefusal begin ≡ 0)
 
           go : (b : Bool) → restartsAt s call ≡ b → before begin calls (suc n) .overrun ≡ cond b (setTo (call .time)) (afterStep1 s call) → Old (suc n)
           go true p e =
-              let lowers = lowers-at begin calls n below into (restarted (s .wave) (accept s call .wave) (afterStep1 s call) p .1) in
+              let lowers = lowers-at begin calls n below into (restarted (s .settings .digital) (s .wave) (accept s call .wave) (afterStep1 s call) p .1) in
               record { runs = ap (λ m. m .set) e; old = rw (ap (λ m. m .time) e) (lowered-old n (omega arith) lowers) }
           go false p e = record { runs = ap (λ m. m .set) e ∙ runs; old = rw (ap (λ m. m .time) e) old }
 
@@ -213,3 +213,11 @@ module _ (begin : Begin) (calls : List Call) (begins : beginRefusal begin ≡ 0)
 
   pub over-current : OverCurrentExactly begin calls
   over-current k = (comes k, goes k)
+
+-- a digital post drives 5 % before and after
+pub digital-lowers-none : (begin : Begin) (calls : List Call) → DigitalLowersNone begin calls
+digital-lowers-none begin calls digital k lowers =
+    absurd (omega (arith, lowers .lower, five k (lowers .was-driven), five (suc k) (lowers .still-driven)))
+  where
+    five : (n : ℕ) → isDriven (before begin calls n) ≡ true → before begin calls n .wave ≡ fivePercent
+    five n = list-reaches begin (take n calls) .driven-five (mark-is begin calls n ∙ digital)

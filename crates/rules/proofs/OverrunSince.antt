@@ -7,7 +7,6 @@ use native.Mathlib.Decide.{decLt}
 use native.Mathlib.Omega.{arith}
 use lib.ListN.{length, take}
 use borrow.Author.Tests.{leb-true}
-use Rattle.units.specs.Wave.{driven}
 use Rattle.rules.specs.Accepted.{accept}
 use Rattle.rules.specs.Begin.{Begin, beginRefusal, fresh}
 use Rattle.rules.specs.Calls.{Call, EvaluatedCall, inTurn}
@@ -15,7 +14,7 @@ use Rattle.rules.specs.Lent.{storedAllowed}
 use Rattle.rules.specs.Lines.{Lines}
 use Rattle.rules.specs.OverCurrent.{Over, Within, Lowers}
 use Rattle.rules.specs.Replay.{isAccepted, replay}
-use Rattle.rules.specs.State.{State, empty, setTo}
+use Rattle.rules.specs.State.{State, isDriven, empty, setTo}
 use Rattle.rules.specs.Step3Wave.{restarts}
 use Rattle.rules.specs.Traces.{before, callAt}
 use Rattle.rules.proofs.Acceptance.{on-time}
@@ -46,7 +45,7 @@ module _ (begin : Begin) (calls : List Call) (begins : beginRefusal begin ≡ 0)
     pub over : Over begin calls j
     pub none-within : (i : ℕ) → j < i → i < n → Within begin calls i → ⊥
     pub closed-since : (i : ℕ) → j < i → i ≤ n → before begin calls i .closed ≡ true
-    pub driven-since : (i : ℕ) → j < i → i ≤ n → driven (before begin calls i .wave) ≡ true
+    pub driven-since : (i : ℕ) → j < i → i ≤ n → isDriven (before begin calls i) ≡ true
     pub not-sooner : at j ≤ began n
     pub lowered : (i : ℕ) → i < n → Lowers begin calls i → at i ≤ began n
 
@@ -60,7 +59,7 @@ module _ (begin : Begin) (calls : List Call) (begins : beginRefusal begin ≡ 0)
     closed-after : before begin calls (suc n) .closed ≡ true
     closed-after = list-reaches begin (take (suc n) calls) .overrun-closed set
 
-    driven-after : driven (before begin calls (suc n) .wave) ≡ true
+    driven-after : isDriven (before begin calls (suc n)) ≡ true
     driven-after = list-reaches begin (take (suc n) calls) .overrun-driven set
 
     -- call n leaves it running
@@ -88,7 +87,7 @@ module _ (begin : Begin) (calls : List Call) (begins : beginRefusal begin ≡ 0)
             let is : i ≡ suc n = omega arith in
             rw is closed-after
 
-        wave : (i : ℕ) → j < i → i ≤ suc n → Dec (i < suc n) → driven (before begin calls i .wave) ≡ true
+        wave : (i : ℕ) → j < i → i ≤ suc n → Dec (i < suc n) → isDriven (before begin calls i) ≡ true
         wave i after until (yes before) = known .driven-since i after (omega arith)
         wave i after until (no later) =
             let is : i ≡ suc n = omega arith in
@@ -139,7 +138,7 @@ module _ (begin : Begin) (calls : List Call) (begins : beginRefusal begin ≡ 0)
 
           by : (b : Bool) → restartsAt s call ≡ b → before begin calls (suc n) .overrun ≡ cond b (setTo (call .time)) (afterStep1 s call) → (j : ℕ) × Since j (suc n)
           by true p e =
-              let ran = sym (ap (λ m. m .set) same) ∙ restarted (s .wave) (accept s call .wave) (afterStep1 s call) p .0 in
+              let ran = sym (ap (λ m. m .set) same) ∙ restarted (s .settings .digital) (s .wave) (accept s call .wave) (afterStep1 s call) p .0 in
               let now : began (suc n) ≡ at n = ap (λ m. m .time) e in
               let known = earlier ran in
               (known .0, longer (known .0) (known .1) not-within (rw now (omega (arith, not-later n ran, on-time s call into .0))) (λ lowers. rw now (omega arith)))
@@ -150,7 +149,7 @@ module _ (begin : Begin) (calls : List Call) (begins : beginRefusal begin ≡ 0)
               let runs = ap (λ m. m .set) same ∙ ran in (
                 known .0,
                 longer (known .0) (known .1) not-within (rw kept (omega arith))
-                    (λ lowers. clash (restarts-when (s .wave) (accept s call .wave) (afterStep1 s call) runs (lowers-to begin calls n below into lowers)) p),
+                    (λ lowers. clash (restarts-when (s .settings .digital) (s .wave) (accept s call .wave) (afterStep1 s call) runs (lowers-to begin calls n below into lowers)) p),
               )
 
       -- one call more, by its event
@@ -169,8 +168,8 @@ module _ (begin : Begin) (calls : List Call) (begins : beginRefusal begin ≡ 0)
           go (starts lines by over unset same) =
               (n, newest (lines, judged-at begin calls n below into lines by, omega (arith, over)) (now same))
           go (ends lines by within same) =
-              clash set (ap (λ m. m .set) (next ∙ ap (λ m. cond (restarts (s .wave) (accept s call .wave) m) (setTo (call .time)) m) same)
-              ∙ none-restarts (s .wave) (accept s call .wave) (call .time) empty refl)
+              clash set (ap (λ m. m .set) (next ∙ ap (λ m. cond (restarts (s .settings .digital) (s .wave) (accept s call .wave) m) (setTo (call .time)) m) same)
+              ∙ none-restarts (s .settings .digital) (s .wave) (accept s call .wave) (call .time) empty refl)
 
   pub since : (n : ℕ) → n ≤ length calls → before begin calls n .overrun .set ≡ true → (j : ℕ) × Since j n
   unfolding replay inTurn fresh

@@ -5,36 +5,36 @@ use Prim.Native.Nat.{ℕ, _+_, _*_, _≤_, _<_}
 use native.Mathlib.Omega.{arith}
 use lib.Dec.{leb, ltb}
 use borrow.Author.Tests.{leb-true, le-leb, ltb-true, ltb-false, lt-ltb}
-use Rattle.units.specs.Wave.{driven}
+use Rattle.units.specs.Wave.{drivenIn}
 use Rattle.units.proofs.LevelOrder.{and-parts}
 use Rattle.window.specs.Evaluation.{Evaluation}
 use Rattle.rules.specs.Accepted.{opensAt, closesAt, afterEvent, afterWave, accept}
-use Rattle.rules.specs.Calls.{Event, sample, limit, measure, fault, clear, tick, EvaluatedCall, isMeasure}
+use Rattle.rules.specs.Calls.{Event, sample, limit, measure, link, fault, clear, tick, EvaluatedCall, isMeasure}
 use Rattle.rules.specs.Lines.{Lines, noCurrents, largest}
-use Rattle.rules.specs.State.{State, Moment, empty, setTo}
-use Rattle.rules.specs.Step1Event.{linesBy, withKind, faultsBy, announced, isOver, overrunAt, overrunBy}
+use Rattle.rules.specs.State.{State, Moment, isDriven, empty, setTo}
+use Rattle.rules.specs.Step1Event.{linesBy, withKind, faultsBy, allowedCurrent, isOver, overrunAt, overrunBy}
 use Rattle.rules.specs.Step2Latches.{ranFor, overCurrent, latched}
 use Rattle.rules.specs.Step3Wave.{lowersDuty, restarts, overrunUnder}
 use Rattle.rules.proofs.Booleans.{clash, or-true}
 use Rattle.rules.proofs.OneCall.{closes-exactly}
 
 -- a duty is lowered, as numbers tell it
-pub record LowersTo (old wave : ℕ) : Type 0 where
-  pub was-driven : driven old ≡ true
-  pub still-driven : driven wave ≡ true
+pub record LowersTo (digital : Bool) (old wave : ℕ) : Type 0 where
+  pub was-driven : drivenIn digital old ≡ true
+  pub still-driven : drivenIn digital wave ≡ true
   pub lower : wave < old
 
-module _ (old wave : ℕ) (overrun : Moment) where
-  pub restarts-when : overrun .set ≡ true → LowersTo old wave → restarts old wave overrun ≡ true
+module _ (digital : Bool) (old wave : ℕ) (overrun : Moment) where
+  pub restarts-when : overrun .set ≡ true → LowersTo digital old wave → restarts digital old wave overrun ≡ true
   unfolding restarts lowersDuty
   restarts-when runs lowers = rw (runs, lowers .was-driven, lowers .still-driven, lt-ltb wave old (lowers .lower))
 
-  pub restarted : restarts old wave overrun ≡ true → (overrun .set ≡ true) × LowersTo old wave
+  pub restarted : restarts digital old wave overrun ≡ true → (overrun .set ≡ true) × LowersTo digital old wave
   unfolding restarts lowersDuty
   restarted e =
-      let one = and-parts (lowersDuty old wave) (overrun .set) e in
-      let two = and-parts (driven old) _ (one .0) in
-      let three = and-parts (driven wave) (ltb wave old) (two .1) in
+      let one = and-parts (lowersDuty digital old wave) (overrun .set) e in
+      let two = and-parts (drivenIn digital old) _ (one .0) in
+      let three = and-parts (drivenIn digital wave) (ltb wave old) (two .1) in
       (one .1, record { was-driven = two .0; still-driven = three .0; lower = ltb-true wave old (three .1) })
 
 module _ (s : State) (call : EvaluatedCall) where
@@ -42,10 +42,10 @@ module _ (s : State) (call : EvaluatedCall) where
   pub record JudgedBy (lines : Lines) : Type 0 where
     pub is : call .event ≡ measure lines
     pub closed : s .closed ≡ true
-    pub driven-wave : driven (s .wave) ≡ true
+    pub driven-wave : isDriven s ≡ true
 
   abbrev pub AboveBound : Lines → Type 0
-  AboveBound lines = 11 * announced (s .wave) < 10 * largest lines
+  AboveBound lines = 11 * allowedCurrent s < 10 * largest lines
 
   -- the over-run after step 1
   abbrev pub afterStep1 : Moment
@@ -55,7 +55,7 @@ module _ (s : State) (call : EvaluatedCall) where
   pub data ByEvent : Type 0 where
     left : afterStep1 ≡ s .overrun → ((lines : Lines) → JudgedBy lines → AboveBound lines × (s .overrun .set ≡ true)) → ByEvent
     starts : (lines : Lines) → JudgedBy lines → AboveBound lines → s .overrun .set ≡ false → afterStep1 ≡ setTo (call .time) → ByEvent
-    ends : (lines : Lines) → JudgedBy lines → 10 * largest lines ≤ 11 * announced (s .wave) → afterStep1 ≡ empty → ByEvent
+    ends : (lines : Lines) → JudgedBy lines → 10 * largest lines ≤ 11 * allowedCurrent s → afterStep1 ≡ empty → ByEvent
 
   pub same-lines : (a b : Lines) → call .event ≡ measure a → call .event ≡ measure b → a ≡ b
   unfolding linesBy
@@ -71,8 +71,8 @@ module _ (s : State) (call : EvaluatedCall) where
       over-is : (lines given : Lines) → call .event ≡ measure lines → JudgedBy given → AboveBound lines → AboveBound given
       over-is lines given is judged over = rw (same-lines given lines (judged .is) is) over
 
-      by : (lines : Lines) (c d o r : Bool) → call .event ≡ measure lines → s .closed ≡ c → driven (s .wave) ≡ d
-          → ltb (11 * announced (s .wave)) (10 * largest lines) ≡ o → s .overrun .set ≡ r → ByEvent
+      by : (lines : Lines) (c d o r : Bool) → call .event ≡ measure lines → s .closed ≡ c → isDriven s ≡ d
+          → ltb (11 * allowedCurrent s) (10 * largest lines) ≡ o → s .overrun .set ≡ r → ByEvent
       by lines false d o r is ec ed eo er = left (rw (is, ec)) (λ given judged. clash (judged .closed) ec)
       by lines true false o r is ec ed eo er = left (rw (is, ec, ed)) (λ given judged. clash (judged .driven-wave) ed)
       by lines true true true true is ec ed eo er =
@@ -83,9 +83,10 @@ module _ (s : State) (call : EvaluatedCall) where
           ends lines (record { is = is; closed = ec; driven-wave = ed }) (ltb-false _ (10 * largest lines) eo) (rw (is, ec, ed, eo))
 
       kind : (event : Event Evaluation) → call .event ≡ event → ByEvent
-      kind (measure lines) is = by lines (s .closed) (driven (s .wave)) (ltb (11 * announced (s .wave)) (10 * largest lines)) (s .overrun .set) is refl refl refl refl
+      kind (measure lines) is = by lines (s .closed) (isDriven s) (ltb (11 * allowedCurrent s) (10 * largest lines)) (s .overrun .set) is refl refl refl refl
       kind (sample window) is = other (sample window) is refl (rw is)
       kind (limit given) is = other (limit given) is refl (rw is)
+      kind (link granted) is = other (link granted) is refl (rw is)
       kind (fault number) is = other (fault number) is refl (rw is)
       kind clear is = other clear is refl (rw is)
       kind tick is = other tick is refl (rw is)
@@ -101,9 +102,9 @@ module _ (s : State) (call : EvaluatedCall) where
 
   -- the over-run after the call, where the contactor was not opened and the wave is driven
   abbrev pub restartsAt : Bool
-  restartsAt = restarts (s .wave) (accept s call .wave) afterStep1
+  restartsAt = restarts (s .settings .digital) (s .wave) (accept s call .wave) afterStep1
 
-  pub overrun-next : opensAt s call ≡ false → driven (accept s call .wave) ≡ true
+  pub overrun-next : opensAt s call ≡ false → isDriven (accept s call) ≡ true
       → accept s call .overrun ≡ cond restartsAt (setTo (call .time)) afterStep1
   unfolding overrunUnder
   overrun-next still is = rw (still, is)
@@ -126,6 +127,7 @@ module _ (s : State) (call : EvaluatedCall) where
   two-left (sample window) none = none
   two-left (limit given) none = none
   two-left (measure lines) none = none
+  two-left (link granted) none = none
   two-left (fault number) none = none
   two-left clear none = refl
   two-left tick none = none

@@ -6,14 +6,13 @@ use Prim.Native.Nat.{ℕ, suc, _<_}
 use native.Mathlib.Omega.{arith}
 use lib.IntN.{ℤ}
 use lib.ListN.{length, getD}
-use Rattle.units.specs.Wave.{driven}
 use Rattle.rules.specs.Accepted.{opensAt, accept}
 use Rattle.rules.specs.Begin.{Begin}
-use Rattle.rules.specs.Calls.{Event, Call, EvaluatedCall, sample, limit, measure, fault, clear, tick, evaluated, isMeasure}
+use Rattle.rules.specs.Calls.{Event, Call, EvaluatedCall, sample, limit, measure, link, fault, clear, tick, evaluated, isMeasure}
 use Rattle.rules.specs.Lines.{Lines, noCurrents}
 use Rattle.rules.specs.OverCurrent.{Judged, Lowers}
 use Rattle.rules.specs.Replay.{isAccepted}
-use Rattle.rules.specs.State.{State, setTo}
+use Rattle.rules.specs.State.{State, isDriven, setTo}
 use Rattle.rules.specs.Step1Event.{linesBy}
 use Rattle.rules.specs.Traces.{noCall, before, callAt}
 use Rattle.rules.proofs.Booleans.{clash}
@@ -26,6 +25,7 @@ unfolding evaluated linesBy
 as-given (measure given) lines e = ap measure (ap (λ event. linesBy event noCurrents) e)
 as-given (sample window) lines e = clash (ap isMeasure e) refl
 as-given (limit current) lines e = clash (ap isMeasure e) refl
+as-given (link granted) lines e = clash (ap isMeasure e) refl
 as-given (fault kind) lines e = clash (ap isMeasure e) refl
 as-given clear lines e = clash (ap isMeasure e) refl
 as-given tick lines e = clash (ap isMeasure e) refl
@@ -61,26 +61,29 @@ module _ (begin : Begin) (calls : List Call) where
       wave-is : before begin calls (suc k) .wave ≡ accept s call .wave
       wave-is = ap (λ x. x .wave) (accepted-is begin calls k below into)
 
-      pub lowers-to : Lowers begin calls k → LowersTo (s .wave) (accept s call .wave)
+      driven-is : isDriven (before begin calls (suc k)) ≡ isDriven (accept s call)
+      driven-is = ap (λ x. isDriven x) (accepted-is begin calls k below into)
+
+      pub lowers-to : Lowers begin calls k → LowersTo (s .settings .digital) (s .wave) (accept s call .wave)
       lowers-to lowers =
           record {
             was-driven = lowers .was-driven;
-            still-driven = sym (ap driven wave-is) ∙ lowers .still-driven;
+            still-driven = sym driven-is ∙ lowers .still-driven;
             lower = omega (arith, wave-is, lowers .lower);
           }
 
-      pub lowers-at : LowersTo (s .wave) (accept s call .wave) → Lowers begin calls k
+      pub lowers-at : LowersTo (s .settings .digital) (s .wave) (accept s call .wave) → Lowers begin calls k
       lowers-at lowers =
           record {
             below = below;
             accepted = into;
             was-driven = lowers .was-driven;
-            still-driven = ap driven wave-is ∙ lowers .still-driven;
+            still-driven = driven-is ∙ lowers .still-driven;
             lower = omega (arith, wave-is, lowers .lower);
           }
 
       -- the over-run after the call, where the contactor was not opened and the wave is driven
-      pub next-run : opensAt s call ≡ false → driven (before begin calls (suc k) .wave) ≡ true
+      pub next-run : opensAt s call ≡ false → isDriven (before begin calls (suc k)) ≡ true
           → before begin calls (suc k) .overrun ≡ cond (restartsAt s call) (setTo (call .time)) (afterStep1 s call)
       next-run still is =
-          ap (λ x. x .overrun) (accepted-is begin calls k below into) ∙ overrun-next s call still (sym (ap driven wave-is) ∙ is)
+          ap (λ x. x .overrun) (accepted-is begin calls k below into) ∙ overrun-next s call still (sym driven-is ∙ is)

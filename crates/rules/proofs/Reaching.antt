@@ -4,8 +4,6 @@ use mathlib.Core.Bool.{Bool, true, false}
 use mathlib.Core.List.{List}
 use mathlib.Core.Logic.{inl, inr}
 use native.Mathlib.Omega.{arith}
-use Rattle.units.specs.Range.{fromTo}
-use Rattle.units.specs.Wave.{driven}
 use Rattle.rules.specs.Accepted.{accept}
 use Rattle.rules.specs.Begin.{Begin, fresh}
 use Rattle.rules.specs.Calls.{Call, EvaluatedCall}
@@ -17,9 +15,12 @@ use Rattle.rules.specs.Step3Wave.{unventilatedD, available}
 use Rattle.rules.proofs.Booleans.{clash}
 use Rattle.rules.proofs.Lists.{replay-keeps}
 use Rattle.rules.proofs.Samples.{fits}
-use Rattle.rules.proofs.Offering.{offered, wave-low-exactly, wave-kinds, driven-greatest, driven-offers}
+use Rattle.rules.proofs.Offering.{offered, wave-low-exactly, wave-kinds, driven-greatest, driven-five, driven-offers}
 use Rattle.rules.proofs.Opened.{no-overrun, no-stop, runs-driven}
 use Rattle.rules.proofs.Held.{left-closed, previous-fits}
+use Rattle.rules.proofs.Grants.{none-in-a, none-in-plain, driven-granted}
+use Rattle.rules.proofs.Stops.{stop-exactly, ungranted-stops}
+use Rattle.rules.proofs.Waves.{high-not-driven}
 
 -- what is kept from call to call
 pub record Invariant (s : State) : Type 0 where
@@ -36,11 +37,17 @@ invariant-holds s call into was =
         wave-low = wave-low-exactly s call;
         wave-kinds = wave-kinds s call;
         driven-greatest = driven-greatest s call;
+        driven-five = driven-five s call;
         driven-no-fault = λ e. driven-offers s call e .0;
         driven-settled = λ e.
             let offer = driven-offers s call e .1 in
             offered (accept s call .settled) (s .settings .ventilation) (offer .state) (offer .ventilated);
         driven-available = λ e. driven-offers s call e .1 .enough;
+        driven-granted = driven-granted s call;
+        none-in-a = none-in-a s call;
+        none-in-plain = none-in-plain s call into (before .none-in-plain);
+        stop-exactly = stop-exactly s call (before .open-no-stop) (λ e. closed e .no-fault);
+        ungranted-stops = ungranted-stops s call (λ e. closed e .no-fault);
         open-no-overrun = no-overrun s call (before .open-no-overrun);
         open-no-stop = no-stop s call (before .open-no-stop);
         overrun-closed = λ e. runs (accept s call .closed) refl e;
@@ -58,16 +65,22 @@ invariant-holds s call into was =
     runs false p e = clash e (no-overrun s call (was .reached .open-no-overrun) p)
 
 pub fresh-invariant : (begin : Begin) → Invariant (fresh begin)
-unfolding fresh driven fromTo anyFault
+unfolding fresh anyFault
 fresh-invariant begin =
     record {
       reached = record {
         wave-low = (λ e. absurd (omega arith), λ e. clash refl (sym e));
         wave-kinds = inr (inl refl);
-        driven-greatest = λ e. clash refl (sym e);
-        driven-no-fault = λ e. clash refl (sym e);
-        driven-settled = λ e. clash refl (sym e);
-        driven-available = λ e. clash refl (sym e);
+        driven-greatest = λ plain e. clash e (high-not-driven (begin .digital));
+        driven-five = λ digital e. clash e (high-not-driven (begin .digital));
+        driven-no-fault = λ e. clash e (high-not-driven (begin .digital));
+        driven-settled = λ e. clash e (high-not-driven (begin .digital));
+        driven-available = λ e. clash e (high-not-driven (begin .digital));
+        driven-granted = λ digital closed e. clash e (high-not-driven (begin .digital));
+        none-in-a = λ e. refl;
+        none-in-plain = λ plain. refl;
+        stop-exactly = (λ e. clash refl (sym e), λ both. clash refl (sym (both .0)));
+        ungranted-stops = λ digital closed few. clash refl (sym closed);
         open-no-overrun = λ e. refl;
         open-no-stop = λ e. refl;
         overrun-closed = λ e. clash refl (sym e);

@@ -13,11 +13,11 @@ use Rattle.units.proofs.FromTo.{outside-exactly}
 use Rattle.window.specs.Evaluation.{Evaluation, levels, refused, evaluate}
 use Rattle.window.proofs.Laws.{refused-exactly}
 use Rattle.rules.specs.Begin.{largestTime}
-use Rattle.rules.specs.Calls.{Event, Call, sample, limit, measure, fault, clear, tick, evaluated, evaluatedCall}
+use Rattle.rules.specs.Calls.{Event, Call, sample, limit, measure, link, fault, clear, tick, evaluated, evaluatedCall}
 use Rattle.rules.specs.Lent.{Lent, altered, lentRefusal}
 use Rattle.rules.specs.Lines.{Lines, lineAllowed, linesAllowed}
 use Rattle.rules.specs.RefusalsAre.{Altered, OnTime, ArgumentsAsked, AnyLineAbove, WrongFor, RefusedBy}
-use Rattle.rules.specs.Refusals.{orElse, timeRefusal, windowRefusal, kindAllowed, limitAllowed, argumentRefusal}
+use Rattle.rules.specs.Refusals.{orElse, timeRefusal, windowRefusal, kindAllowed, limitAllowed, grantAllowed, linkRefusal, argumentRefusal}
 use Rattle.rules.proofs.Altered.{altered-exactly}
 use Rattle.rules.proofs.Booleans.{clash}
 
@@ -29,14 +29,14 @@ pub data Way (lent : Lent) (call : Call) : Type 0 where
   late : lentRefusal lent (evaluatedCall call) ≡ 3 → largestTime < call .time → Way lent call
   early : lentRefusal lent (evaluatedCall call) ≡ 2 → call .time ≤ largestTime → call .time < lent .state .last → Way lent call
   changed : lentRefusal lent (evaluatedCall call) ≡ 1 → OnTime lent call → Altered lent → Way lent call
-  judged : lentRefusal lent (evaluatedCall call) ≡ argumentRefusal (evaluated (call .event)) → ArgumentsAsked lent call → Way lent call
+  judged : lentRefusal lent (evaluatedCall call) ≡ argumentRefusal (lent .state .settings .digital) (evaluated (call .event)) → ArgumentsAsked lent call → Way lent call
 
 way : (lent : Lent) (call : Call) → Way lent call
 unfolding lentRefusal timeRefusal
 way lent call = go (ltb largestTime (call .time)) (ltb (call .time) (lent .state .last)) (altered lent) refl refl refl
   where
     is : (a b c : Bool) → ltb largestTime (call .time) ≡ a → ltb (call .time) (lent .state .last) ≡ b → altered lent ≡ c
-        → lentRefusal lent (evaluatedCall call) ≡ first a b c (argumentRefusal (evaluated (call .event)))
+        → lentRefusal lent (evaluatedCall call) ≡ first a b c (argumentRefusal (lent .state .settings .digital) (evaluated (call .event)))
     is a b c p q r = rw (p, q, r)
 
     go : (a b c : Bool) → ltb largestTime (call .time) ≡ a → ltb (call .time) (lent .state .last) ≡ b → altered lent ≡ c → Way lent call
@@ -77,57 +77,86 @@ refused-with : (w : Evaluation) (n : ℕ) → 4 ≤ n → (windowRefusal w ≡ n
 refused-with (levels high low) n big = (λ e. absurd (omega arith), λ e. ap windowRefusal e)
 refused-with (refused number) n big = (λ e. ap refused e, λ e. ap windowRefusal e)
 
+-- a link call's refusal: 12 in a plain post, and 11 for a grant above 80,000 in a digital one
+link-exactly : (digital : Bool) (granted n : ℕ) → 4 ≤ n
+    → (linkRefusal digital granted ≡ n) ↔ (((n ≡ 12) × (digital ≡ false)) ⊎ ((n ≡ 11) × (digital ≡ true) × (80000 < granted)))
+unfolding linkRefusal grantAllowed
+link-exactly true granted n big = (λ e. inr (to (test .0 e)), λ wrong. test .1 (from wrong))
+  where
+    test : (cond (leb granted 80000) 0 11 ≡ n) ↔ ((n ≡ 11) × (80000 < granted))
+    test = refused-if (leb granted 80000) 11 n (80000 < granted) (above-exactly granted 80000) big
+
+    to : (n ≡ 11) × (80000 < granted) → (n ≡ 11) × (true ≡ true) × (80000 < granted)
+    to known = (known .0, refl, known .1)
+
+    from : ((n ≡ 12) × (true ≡ false)) ⊎ ((n ≡ 11) × (true ≡ true) × (80000 < granted)) → (n ≡ 11) × (80000 < granted)
+    from (inl (is, plain)) = clash refl plain
+    from (inr (is, digital, above)) = (is, above)
+link-exactly false granted n big = (λ e. inl (sym e, refl), λ wrong. from wrong)
+  where
+    from : ((n ≡ 12) × (false ≡ false)) ⊎ ((n ≡ 11) × (false ≡ true) × (80000 < granted)) → 12 ≡ n
+    from (inl (is, plain)) = sym is
+    from (inr (is, digital, above)) = clash digital refl
+
 -- the arguments' refusal, number by number
-arguments : (event : Event (List ℤ)) (n : ℕ) → 4 ≤ n → (argumentRefusal (evaluated event) ≡ n) ↔ WrongFor n event
+arguments : (digital : Bool) (event : Event (List ℤ)) (n : ℕ) → 4 ≤ n → (argumentRefusal digital (evaluated event) ≡ n) ↔ WrongFor n digital event
 unfolding evaluated argumentRefusal limitAllowed kindAllowed
-arguments (sample window) n big = (
+arguments digital (sample window) n big = (
   λ e. refused-exactly window n .0 (refused-with (evaluate window) n big .0 e),
   λ wrong. refused-with (evaluate window) n big .1 (refused-exactly window n .1 wrong),
 )
-arguments (limit current) n big = refused-if (leb current 80000) 7 n (80000 < current) (above-exactly current 80000) big
-arguments (measure lines) n big = refused-if (linesAllowed lines) 7 n (AnyLineAbove lines) (any-line-exactly lines) big
-arguments (fault kind) n big = refused-if (fromTo 3 5 kind) 8 n (Outside 3 5 kind) (outside-exactly 3 5 kind) big
-arguments clear n big = (λ e. absurd (omega arith), λ e. absurd e)
-arguments tick n big = (λ e. absurd (omega arith), λ e. absurd e)
+arguments digital (limit current) n big = refused-if (leb current 80000) 7 n (80000 < current) (above-exactly current 80000) big
+arguments digital (measure lines) n big = refused-if (linesAllowed lines) 7 n (AnyLineAbove lines) (any-line-exactly lines) big
+arguments digital (link granted) n big = link-exactly digital granted n big
+arguments digital (fault kind) n big = refused-if (fromTo 3 5 kind) 8 n (Outside 3 5 kind) (outside-exactly 3 5 kind) big
+arguments digital clear n big = (λ e. absurd (omega arith), λ e. absurd e)
+arguments digital tick n big = (λ e. absurd (omega arith), λ e. absurd e)
 
--- it is 0 or one of 4 to 8
+-- it is 0 or one of 4 to 8, 11 and 12
+abbrev Numbered : ℕ → Type 0
+Numbered n = (4 ≤ n) × ((n ≤ 8) ⊎ ((n ≡ 11) ⊎ (n ≡ 12)))
+
 abbrev Known : ℕ → Type 0
-Known n = (n ≡ 0) ⊎ ((4 ≤ n) × (n ≤ 8))
+Known n = (n ≡ 0) ⊎ Numbered n
 
-known-if : (b : Bool) (number : ℕ) → 4 ≤ number → number ≤ 8 → Known (cond b 0 number)
-known-if true number least most = inl refl
-known-if false number least most = inr (least, most)
+known-if : (b : Bool) (number : ℕ) → Numbered number → Known (cond b 0 number)
+known-if true number numbered = inl refl
+known-if false number numbered = inr numbered
 
-wrong-number : (event : Event (List ℤ)) (n : ℕ) → WrongFor n event → (4 ≤ n) × (n ≤ 8)
-wrong-number (sample window) n (inl (is, out)) = (omega arith, omega arith)
-wrong-number (sample window) n (inr (inl (is, one))) = (omega arith, omega arith)
-wrong-number (sample window) n (inr (inr (is, none))) = (omega arith, omega arith)
-wrong-number (limit current) n (is, out) = (omega arith, omega arith)
-wrong-number (measure lines) n (is, out) = (omega arith, omega arith)
-wrong-number (fault kind) n (is, out) = (omega arith, omega arith)
-wrong-number clear n none = absurd none
-wrong-number tick n none = absurd none
+wrong-number : (digital : Bool) (event : Event (List ℤ)) (n : ℕ) → WrongFor n digital event → Numbered n
+wrong-number digital (sample window) n (inl (is, out)) = (omega arith, inl (omega arith))
+wrong-number digital (sample window) n (inr (inl (is, one))) = (omega arith, inl (omega arith))
+wrong-number digital (sample window) n (inr (inr (is, none))) = (omega arith, inl (omega arith))
+wrong-number digital (limit current) n (is, out) = (omega arith, inl (omega arith))
+wrong-number digital (measure lines) n (is, out) = (omega arith, inl (omega arith))
+wrong-number digital (link granted) n (inl (is, plain)) = (omega arith, inr (inr is))
+wrong-number digital (link granted) n (inr (is, marked, above)) = (omega arith, inr (inl is))
+wrong-number digital (fault kind) n (is, out) = (omega arith, inl (omega arith))
+wrong-number digital clear n none = absurd none
+wrong-number digital tick n none = absurd none
 
 window-number : (window : List ℤ) (w : Evaluation) → evaluate window ≡ w → Known (windowRefusal w)
 window-number window (levels high low) e = inl refl
-window-number window (refused number) e = inr (wrong-number (sample window) number (refused-exactly window number .0 e))
+window-number window (refused number) e = inr (wrong-number true (sample window) number (refused-exactly window number .0 e))
 
-argument-number : (event : Event (List ℤ)) → Known (argumentRefusal (evaluated event))
-unfolding evaluated argumentRefusal
-argument-number (sample window) = window-number window (evaluate window) refl
-argument-number (limit current) = known-if (limitAllowed current) 7 (omega arith) (omega arith)
-argument-number (measure lines) = known-if (linesAllowed lines) 7 (omega arith) (omega arith)
-argument-number (fault kind) = known-if (kindAllowed kind) 8 (omega arith) (omega arith)
-argument-number clear = inl refl
-argument-number tick = inl refl
+argument-number : (digital : Bool) (event : Event (List ℤ)) → Known (argumentRefusal digital (evaluated event))
+unfolding evaluated argumentRefusal linkRefusal
+argument-number digital (sample window) = window-number window (evaluate window) refl
+argument-number digital (limit current) = known-if (limitAllowed current) 7 (omega arith, inl (omega arith))
+argument-number digital (measure lines) = known-if (linesAllowed lines) 7 (omega arith, inl (omega arith))
+argument-number true (link granted) = known-if (grantAllowed granted) 11 (omega arith, inr (inl refl))
+argument-number false (link granted) = inr (omega arith, inr (inr refl))
+argument-number digital (fault kind) = known-if (kindAllowed kind) 8 (omega arith, inl (omega arith))
+argument-number digital clear = inl refl
+argument-number digital tick = inl refl
 
 module _ (lent : Lent) (call : Call) where
   -- a number from 1 to 3 is not that of the arguments
   not-judged : {X : Type 0} (n : ℕ) → 1 ≤ n → n ≤ 3 → lentRefusal lent (evaluatedCall call) ≡ n
-      → lentRefusal lent (evaluatedCall call) ≡ argumentRefusal (evaluated (call .event)) → X
-  not-judged {X} n some few is same = go (argument-number (call .event))
+      → lentRefusal lent (evaluatedCall call) ≡ argumentRefusal (lent .state .settings .digital) (evaluated (call .event)) → X
+  not-judged {X} n some few is same = go (argument-number (lent .state .settings .digital) (call .event))
     where
-      go : Known (argumentRefusal (evaluated (call .event))) → X
+      go : Known (argumentRefusal (lent .state .settings .digital) (evaluated (call .event))) → X
       go (inl none) = absurd (omega arith)
       go (inr big) = absurd (omega (arith, big .0))
 
@@ -138,8 +167,8 @@ module _ (lent : Lent) (call : Call) where
         two = (λ e. two (way lent call) e, λ h. two-back (way lent call) h);
         one = (λ e. one (way lent call) e, λ h. one-back (way lent call) h);
         later = λ n big. (λ e. later n big (way lent call) e, λ h. later-back n big (way lent call) h);
-        none = (λ e. none (way lent call) e, λ h. none-back (way lent call) (argument-number (call .event)) h);
-        no-other = few (way lent call) (argument-number (call .event));
+        none = (λ e. none (way lent call) e, λ h. none-back (way lent call) (argument-number (lent .state .settings .digital) (call .event)) h);
+        no-other = few (way lent call) (argument-number (lent .state .settings .digital) (call .event));
       }
     where
       three : Way lent call → lentRefusal lent (evaluatedCall call) ≡ 3 → largestTime < call .time
@@ -178,41 +207,44 @@ module _ (lent : Lent) (call : Call) where
       one-back (changed is h k) both = is
       one-back (judged is h) both = absurd (h .1 (both .1))
 
-      later : (n : ℕ) → 4 ≤ n → Way lent call → lentRefusal lent (evaluatedCall call) ≡ n → ArgumentsAsked lent call × WrongFor n (call .event)
+      later : (n : ℕ) → 4 ≤ n → Way lent call → lentRefusal lent (evaluatedCall call) ≡ n → ArgumentsAsked lent call × WrongFor n (lent .state .settings .digital) (call .event)
       later n big (late is h) e = absurd (omega arith)
       later n big (early is h k) e = absurd (omega arith)
       later n big (changed is h k) e = absurd (omega arith)
-      later n big (judged is h) e = (h, arguments (call .event) n big .0 (sym is ∙ e))
+      later n big (judged is h) e = (h, arguments (lent .state .settings .digital) (call .event) n big .0 (sym is ∙ e))
 
-      later-back : (n : ℕ) → 4 ≤ n → Way lent call → ArgumentsAsked lent call × WrongFor n (call .event) → lentRefusal lent (evaluatedCall call) ≡ n
+      later-back : (n : ℕ) → 4 ≤ n → Way lent call → ArgumentsAsked lent call × WrongFor n (lent .state .settings .digital) (call .event) → lentRefusal lent (evaluatedCall call) ≡ n
       later-back n big (late is h) all = absurd (omega (arith, all .0 .0))
       later-back n big (early is h k) all = absurd (omega (arith, all .0 .0))
       later-back n big (changed is h k) all = absurd (all .0 .1 k)
-      later-back n big (judged is h) all = is ∙ arguments (call .event) n big .1 (all .1)
+      later-back n big (judged is h) all = is ∙ arguments (lent .state .settings .digital) (call .event) n big .1 (all .1)
 
-      none : Way lent call → lentRefusal lent (evaluatedCall call) ≡ 0 → ArgumentsAsked lent call × ((n : ℕ) → WrongFor n (call .event) → ⊥)
+      none : Way lent call → lentRefusal lent (evaluatedCall call) ≡ 0 → ArgumentsAsked lent call × ((n : ℕ) → WrongFor n (lent .state .settings .digital) (call .event) → ⊥)
       none (late is h) e = absurd (omega arith)
       none (early is h k) e = absurd (omega arith)
       none (changed is h k) e = absurd (omega arith)
       none (judged is h) e = (
         h,
         λ n wrong.
-            let big = wrong-number (call .event) n wrong .0 in
-            let same = arguments (call .event) n big .1 wrong in
+            let big = wrong-number (lent .state .settings .digital) (call .event) n wrong .0 in
+            let same = arguments (lent .state .settings .digital) (call .event) n big .1 wrong in
             absurd (omega arith),
       )
 
-      none-back : Way lent call → Known (argumentRefusal (evaluated (call .event))) → ArgumentsAsked lent call × ((n : ℕ) → WrongFor n (call .event) → ⊥)
+      none-back : Way lent call → Known (argumentRefusal (lent .state .settings .digital) (evaluated (call .event))) → ArgumentsAsked lent call × ((n : ℕ) → WrongFor n (lent .state .settings .digital) (call .event) → ⊥)
           → lentRefusal lent (evaluatedCall call) ≡ 0
       none-back (late is h) number all = absurd (omega (arith, all .0 .0))
       none-back (early is h k) number all = absurd (omega (arith, all .0 .0))
       none-back (changed is h k) number all = absurd (all .0 .1 k)
       none-back (judged is h) (inl zero) all = is ∙ zero
-      none-back (judged is h) (inr big) all = absurd (all .1 _ (arguments (call .event) _ (big .0) .0 refl))
+      none-back (judged is h) (inr big) all = absurd (all .1 _ (arguments (lent .state .settings .digital) (call .event) _ (big .0) .0 refl))
 
-      few : Way lent call → Known (argumentRefusal (evaluated (call .event))) → lentRefusal lent (evaluatedCall call) ≤ 8
-      few (late is h) number = omega arith
-      few (early is h k) number = omega arith
-      few (changed is h k) number = omega arith
-      few (judged is h) (inl zero) = omega arith
-      few (judged is h) (inr big) = omega (arith, big .1)
+      few : Way lent call → Known (argumentRefusal (lent .state .settings .digital) (evaluated (call .event)))
+          → (lentRefusal lent (evaluatedCall call) ≤ 8) ⊎ ((lentRefusal lent (evaluatedCall call) ≡ 11) ⊎ (lentRefusal lent (evaluatedCall call) ≡ 12))
+      few (late is h) number = inl (omega arith)
+      few (early is h k) number = inl (omega arith)
+      few (changed is h k) number = inl (omega arith)
+      few (judged is h) (inl zero) = inl (omega arith)
+      few (judged is h) (inr (big, inl small)) = inl (omega arith)
+      few (judged is h) (inr (big, inr (inl eleven))) = inr (inl (is ∙ eleven))
+      few (judged is h) (inr (big, inr (inr twelve))) = inr (inr (is ∙ twelve))

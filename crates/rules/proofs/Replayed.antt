@@ -18,7 +18,7 @@ use Rattle.rules.proofs.Demand3.{demand3-of}
 use Rattle.rules.proofs.Lawful.{Memory, Meets, Law, Lawful}
 use Rattle.rules.proofs.Lists.{list-in-range}
 use Rattle.rules.proofs.Ranges.{pause-least}
-use Rattle.rules.proofs.Stepped.{next-is}
+use Rattle.rules.proofs.Stepped.{mark-is, next-is}
 use Rattle.rules.proofs.OneCall.{closed-next, opening-next, previous-is, opening-forgets, closes-exactly}
 
 module _ (begin : Begin) (calls : List Call) where
@@ -76,6 +76,7 @@ module _ (begin : Begin) (calls : List Call) where
             second-proven = all .pair .second-proven;
             one-band = all .pair .one-band;
             has-band = all .pair .has-band;
+            granted = λ digital. all .has-grant (mark-is begin calls k ∙ digital);
             pauseOver = all .pauses;
           }
 

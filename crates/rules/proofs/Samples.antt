@@ -8,15 +8,14 @@ use lib.IntN.{ℤ, pos, negsuc, negℤ}
 use lib.Signed.{leZ, ltZ}
 use borrow.Author.Tests.{leb-true, ltb-true, lt-leb, lt-ltb, eqb-true}
 use Rattle.units.specs.Range.{within, strictlyBetween}
-use Rattle.units.specs.Wave.{driven}
 use Rattle.units.proofs.LevelOrder.{both-ways, and-parts, within-parts}
 use Rattle.pilot.specs.Bands.{bandC, bandD, noBand, inC, inD, inE, inLowBand, bandOf, ready}
 use Rattle.pilot.specs.Verdicts.{sound, proven, verdictOf}
 use Rattle.pilot.proofs.Laws.{bands-are}
 use Rattle.window.specs.Evaluation.{Evaluation, levels, refused}
-use Rattle.rules.specs.Calls.{Event, sample, limit, measure, fault, clear, tick}
+use Rattle.rules.specs.Calls.{Event, sample, limit, measure, link, fault, clear, tick}
 use Rattle.rules.specs.Pairs.{verdict, windowVerdict}
-use Rattle.rules.specs.State.{State}
+use Rattle.rules.specs.State.{State, isDriven}
 use Rattle.rules.proofs.Booleans.{clash}
 
 -- no band, or C or D
@@ -53,9 +52,9 @@ module _ (high : ℤ) where
       right-false true = refl
       right-false false = refl
 
-  sound-fits : (wave : ℕ) (low : ℤ) → sound wave high low ≡ true → fits (bandOf high) ≡ true
+  sound-fits : (driven : Bool) (low : ℤ) → sound driven high low ≡ true → fits (bandOf high) ≡ true
   unfolding sound bandOf
-  sound-fits wave low e =
+  sound-fits driven low e =
       let mid = and-parts (strictlyBetween (pos 1500) (pos 7500) high) _ e .0 in
       rw (not-over 11000 13000 (omega arith) mid, not-over 8000 10000 (omega arith) mid, not-e mid) (go (inC high) (inD high))
     where
@@ -80,50 +79,53 @@ module _ (high : ℤ) where
       go false true p q f = inside-strict 2000 4000 (omega arith) (omega arith) (bands-are high .isD .0 (eqb-true (bandOf high) bandD q))
       go false false p q f = clash refl (sym f)
 
-  proven-sound : (wave : ℕ) (low : ℤ) (ventilation : Bool) → proven wave high low ventilation ≡ true → sound wave high low ≡ true
+  proven-sound : (driven : Bool) (low : ℤ) (ventilation : Bool) → proven driven high low ventilation ≡ true → sound driven high low ≡ true
   unfolding proven sound
-  proven-sound wave low ventilation e =
-      let one = and-parts (driven wave) _ e in
+  proven-sound driven low ventilation e =
+      let one = and-parts driven _ e in
       let two = and-parts (ready (bandOf high) ventilation) (inLowBand low) (one .1) in
-      rw (ready-between ventilation (two .0), two .1) (go (driven wave))
+      rw (ready-between ventilation (two .0), two .1) (go driven)
     where
       go : (d : Bool) → not d || true ≡ true
       go true = refl
       go false = refl
 
-  proven-ready : (wave : ℕ) (low : ℤ) (ventilation : Bool) → proven wave high low ventilation ≡ true → ready (bandOf high) ventilation ≡ true
+  proven-ready : (driven : Bool) (low : ℤ) (ventilation : Bool) → proven driven high low ventilation ≡ true → ready (bandOf high) ventilation ≡ true
   unfolding proven
-  proven-ready wave low ventilation e =
-      and-parts (ready (bandOf high) ventilation) (inLowBand low) (and-parts (driven wave) _ e .1) .0
+  proven-ready driven low ventilation e =
+      and-parts (ready (bandOf high) ventilation) (inLowBand low) (and-parts driven _ e .1) .0
 
 -- the same of a call's verdict: a call that is no sample has none of them
 module _ (s : State) where
   pub verdict-fits : (event : Event Evaluation) → verdict s event .sound ≡ true → fits (verdict s event .band) ≡ true
   unfolding verdict windowVerdict verdictOf
-  verdict-fits (sample (levels high low)) e = sound-fits high (s .wave) low e
+  verdict-fits (sample (levels high low)) e = sound-fits high (isDriven s) low e
   verdict-fits (sample (refused number)) e = refl
   verdict-fits (limit given) e = refl
   verdict-fits (measure lines) e = refl
+  verdict-fits (link granted) e = refl
   verdict-fits (fault kind) e = refl
   verdict-fits clear e = refl
   verdict-fits tick e = refl
 
   pub verdict-sound : (event : Event Evaluation) → verdict s event .proven ≡ true → verdict s event .sound ≡ true
   unfolding verdict windowVerdict verdictOf
-  verdict-sound (sample (levels high low)) e = proven-sound high (s .wave) low (s .settings .ventilation) e
+  verdict-sound (sample (levels high low)) e = proven-sound high (isDriven s) low (s .settings .ventilation) e
   verdict-sound (sample (refused number)) e = e
   verdict-sound (limit given) e = e
   verdict-sound (measure lines) e = e
+  verdict-sound (link granted) e = e
   verdict-sound (fault kind) e = e
   verdict-sound clear e = e
   verdict-sound tick e = e
 
   pub verdict-ready : (event : Event Evaluation) → verdict s event .proven ≡ true → ready (verdict s event .band) (s .settings .ventilation) ≡ true
   unfolding verdict windowVerdict verdictOf
-  verdict-ready (sample (levels high low)) e = proven-ready high (s .wave) low (s .settings .ventilation) e
+  verdict-ready (sample (levels high low)) e = proven-ready high (isDriven s) low (s .settings .ventilation) e
   verdict-ready (sample (refused number)) e = both-ways (sym e)
   verdict-ready (limit given) e = both-ways (sym e)
   verdict-ready (measure lines) e = both-ways (sym e)
+  verdict-ready (link granted) e = both-ways (sym e)
   verdict-ready (fault kind) e = both-ways (sym e)
   verdict-ready clear e = both-ways (sym e)
   verdict-ready tick e = both-ways (sym e)

@@ -7,3 +7,4 @@ pub mod OtherRows
 pub mod StateRows
 pub mod SlowingRows
 pub mod RangeRows
+pub mod DigitalRows

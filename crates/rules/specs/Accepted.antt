@@ -16,6 +16,7 @@ stepEnd forgot time pair s =
     record {
       settings = s .settings;
       limit = s .limit;
+      grant = s .grant;
       wave = s .wave;
       closed = s .closed;
       settled = s .settled;
@@ -37,6 +38,10 @@ module _ (s : State) (call : EvaluatedCall) where
   -- after step 1
   abbrev pub afterEvent : State
   afterEvent = stepEvent (call .time) (call .event) pairAt s
+
+  -- the grant after step 1, which no later step changes
+  abbrev pub grantAt : ℕ
+  grantAt = afterEvent .grant
 
   -- the call unsettles, in step 2
   abbrev pub unsettlesAt : Bool

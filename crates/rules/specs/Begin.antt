@@ -1,4 +1,4 @@
--- Begin (document 01, "The calls"): its values, its refusals and the fresh controller.
+-- Begin (document 01, "The calls"; the mark: document 02, e): its values, its refusals and the fresh controller.
 use mathlib.Core.Bool.{Bool, false, _&&_, _||_, cond}
 use Prim.Native.Nat.{ℕ}
 use lib.Dec.{eqb, ltb}
@@ -7,12 +7,13 @@ use Rattle.units.specs.Wave.{steadyHigh}
 use Rattle.rules.specs.Lines.{noCurrents}
 use Rattle.rules.specs.State.{State, Settings, unsettled, noFaults, empty, forgotten}
 
--- begin's values: time, rated current, pause, ventilation
+-- begin's values: time, rated current, pause, ventilation, and the mark, digital or plain
 pub record Begin : Type 0 where
   pub time : ℕ
   pub rated : ℕ
   pub pause : ℕ
   pub ventilation : Bool
+  pub digital : Bool
 
 -- times run from 0 to this one
 abbrev pub largestTime : ℕ
@@ -40,7 +41,8 @@ pauseFor pause = cond (eqb pause 0) defaultPause pause
 
 -- the settings in force: begin's, the pause as it is stored
 abbrev pub inForce : Settings → Settings
-inForce given = record { rated = given .rated; pause = pauseFor (given .pause); ventilation = given .ventilation }
+inForce given =
+    record { rated = given .rated; pause = pauseFor (given .pause); ventilation = given .ventilation; digital = given .digital }
 
 -- refusal 3, then 1; 0 if begin is accepted
 unfoldable pub beginRefusal : Begin → ℕ
@@ -52,8 +54,9 @@ beginRefusal begin =
 unfoldable pub fresh : Begin → State
 fresh begin =
     record {
-      settings = inForce (record { rated = begin .rated; pause = begin .pause; ventilation = begin .ventilation });
+      settings = inForce (record { rated = begin .rated; pause = begin .pause; ventilation = begin .ventilation; digital = begin .digital });
       limit = 0;
+      grant = 0;
       wave = steadyHigh;
       closed = false;
       settled = unsettled;

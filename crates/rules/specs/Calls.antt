@@ -1,4 +1,4 @@
--- The calls of a list (document 01, "The calls"): any numbers, any window.
+-- The calls of a list (document 01, "The calls"; the link call: document 02, e): any numbers, any window.
 use mathlib.Core.Bool.{Bool, true, false}
 use mathlib.Core.List.{List, [], _∷_}
 use Prim.Native.Nat.{ℕ}
@@ -11,6 +11,7 @@ pub data Event (Window : Type 0) : Type 0 where
   sample : Window → Event Window
   limit : ℕ → Event Window
   measure : Lines → Event Window
+  link : ℕ → Event Window
   fault : ℕ → Event Window
   clear : Event Window
   tick : Event Window
@@ -30,6 +31,7 @@ unfoldable pub evaluated : Event (List ℤ) → Event Evaluation
 evaluated (sample window) = sample (evaluate window)
 evaluated (limit current) = limit current
 evaluated (measure lines) = measure lines
+evaluated (link granted) = link granted
 evaluated (fault kind) = fault kind
 evaluated clear = clear
 evaluated tick = tick
@@ -48,6 +50,7 @@ abbrev pub isSample : Event Evaluation → Bool
 isSample (sample window) = true
 isSample (limit current) = false
 isSample (measure lines) = false
+isSample (link granted) = false
 isSample (fault kind) = false
 isSample clear = false
 isSample tick = false
@@ -57,15 +60,27 @@ abbrev pub isMeasure : {Window : Type 0} → Event Window → Bool
 isMeasure (sample window) = false
 isMeasure (limit current) = false
 isMeasure (measure lines) = true
+isMeasure (link granted) = false
 isMeasure (fault kind) = false
 isMeasure clear = false
 isMeasure tick = false
+
+-- a link call
+abbrev pub isLink : {Window : Type 0} → Event Window → Bool
+isLink (sample window) = false
+isLink (limit current) = false
+isLink (measure lines) = false
+isLink (link granted) = true
+isLink (fault kind) = false
+isLink clear = false
+isLink tick = false
 
 -- a fault call
 abbrev pub isFault : Event Evaluation → Bool
 isFault (sample window) = false
 isFault (limit current) = false
 isFault (measure lines) = false
+isFault (link granted) = false
 isFault (fault kind) = true
 isFault clear = false
 isFault tick = false

@@ -22,6 +22,9 @@ pub record Trace : Type 0 where
   -- call k meets every closing condition; an opening cause holds in it
   pub closes : ℕ → Bool
   pub cause : ℕ → Bool
+  -- the post is digital; the grant at call k, after its step 1
+  pub digital : Bool
+  pub grant : ℕ → ℕ
   -- the pause in force when call k is made
   pub pause : ℕ → ℕ
 
@@ -94,6 +97,8 @@ module _ (t : Trace) where
   pub record Demand3 : Type 0 where
     pub exactly : (t .toldClosed (t .length) ≡ true) ↔ ((k : ℕ) × HeldSince k)
     pub proves : (k : ℕ) → Closing k → (j : ℕ) × Proves j k
+    -- a digital post closes with a grant of at least 6,000 (document 02, e)
+    pub grants : t .digital ≡ true → (k : ℕ) → Closing k → 6000 ≤ t .grant k
     pub pauses : (i j k : ℕ) → i < k → Closing i → Closing k → Proves j k → PausedBetween i j k
     pub counts : t .carried (t .length) ≡ closingsIn (t .length)
     pub at-most : closingsIn (t .length) ≤ mostClosings

@@ -2,10 +2,10 @@
 use mathlib.Core.Bool.{Bool, _&&_, _||_, not, cond}
 use Prim.Native.Nat.{ℕ}
 use lib.Dec.{eqb, leb}
-use Rattle.units.specs.Wave.{driven, steadyLow, steadyHigh}
+use Rattle.units.specs.Wave.{driven, fivePercent, steadyLow, steadyHigh}
 use Rattle.rules.specs.Begin.{ratedAllowed, pauseAllowed}
 use Rattle.rules.specs.Calls.{EvaluatedCall}
-use Rattle.rules.specs.Refusals.{orElse, timeRefusal, limitAllowed, argumentRefusal}
+use Rattle.rules.specs.Refusals.{orElse, timeRefusal, limitAllowed, grantAllowed, argumentRefusal}
 use Rattle.rules.specs.State.{State, Moment}
 
 -- the controller that a call is lent
@@ -21,9 +21,13 @@ mostClosings = 1000000001
 abbrev pub countAllowed : ℕ → Bool
 countAllowed closings = leb closings mostClosings
 
--- the wave's range
-unfoldable pub waveAllowed : ℕ → Bool
-waveAllowed wave = eqb wave steadyLow || (driven wave || eqb wave steadyHigh)
+-- the driven waves of a post: 5 % of a digital one, 100 to 960 of a plain one
+unfoldable pub drivenAllowed : Bool → ℕ → Bool
+drivenAllowed digital wave = cond digital (eqb wave fivePercent) (driven wave)
+
+-- the wave's range: 0, 50 and 1000 in a digital post (document 02, e); 0, 100 to 960 and 1000 in a plain one
+unfoldable pub waveAllowed : Bool → ℕ → Bool
+waveAllowed digital wave = eqb wave steadyLow || (drivenAllowed digital wave || eqb wave steadyHigh)
 
 -- a stored time that is not above the last accepted one; an empty one is no stored time
 unfoldable pub storedAllowed : ℕ → Moment → Bool
@@ -36,18 +40,20 @@ timesAllowed s =
     && (storedAllowed (s .last) (s .opening)
     && (storedAllowed (s .last) (s .overrun) && storedAllowed (s .last) (s .stop)))
 
--- wave, limit, rated and pause are in range, and so are the stored times
+-- wave, limit, grant, rated and pause are in range, and so are the stored times
 unfoldable pub inRange : State → Bool
 inRange s =
-    waveAllowed (s .wave)
+    waveAllowed (s .settings .digital) (s .wave)
     && (limitAllowed (s .limit)
-    && (ratedAllowed (s .settings .rated) && (pauseAllowed (s .settings .pause) && timesAllowed s)))
+    && (grantAllowed (s .grant)
+    && (ratedAllowed (s .settings .rated) && (pauseAllowed (s .settings .pause) && timesAllowed s))))
 
--- refusal 1: wave, limit, rated, pause, a stored time or the closings of the lent controller are out of range
+-- refusal 1: wave, limit, grant, rated, pause, a stored time or the closings of the lent controller are out of range
 unfoldable pub altered : Lent → Bool
 altered lent = not (inRange (lent .state) && countAllowed (lent .closings))
 
--- the refusal of a call that is lent a controller: 3, then 2, then 1, then 4 to 8
+-- the refusal of a call that is lent a controller: 3, then 2, then 1, then those for the arguments
 unfoldable pub lentRefusal : Lent → EvaluatedCall → ℕ
 lentRefusal lent call =
-    orElse (timeRefusal (lent .state .last) (call .time)) (orElse (cond (altered lent) 1 0) (argumentRefusal (call .event)))
+    orElse (timeRefusal (lent .state .last) (call .time))
+    (orElse (cond (altered lent) 1 0) (argumentRefusal (lent .state .settings .digital) (call .event)))

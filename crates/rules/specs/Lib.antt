@@ -15,6 +15,7 @@ pub mod Replay
 pub mod Lent
 pub mod Reply
 pub mod Answer
+pub mod PlainPost
 pub mod Claim
 pub mod Traces
 pub mod Every20

@@ -6,8 +6,8 @@ use Rattle.pilot.specs.declared.verdicts.Verdict.{Verdict}
 use Rattle.pilot.specs.Bands.{noBand}
 use Rattle.pilot.specs.Verdicts.{verdictOf}
 use Rattle.window.specs.Evaluation.{Evaluation, levels, refused}
-use Rattle.rules.specs.Calls.{Event, sample, limit, measure, fault, clear, tick, isSample}
-use Rattle.rules.specs.State.{State, Previous, noVerdict}
+use Rattle.rules.specs.Calls.{Event, sample, limit, measure, link, fault, clear, tick, isSample}
+use Rattle.rules.specs.State.{State, Previous, noVerdict, isDriven}
 
 -- a call's own verdict, and the previous sample as the call finds it
 pub record Pair : Type 0 where
@@ -15,16 +15,17 @@ pub record Pair : Type 0 where
   pub this : Verdict
   pub previous : Previous
 
--- the verdict on a window, by its levels, the wave and the ventilation
-unfoldable pub windowVerdict : ℕ → Bool → Evaluation → Verdict
-windowVerdict wave ventilation (levels high low) = verdictOf wave high low ventilation
-windowVerdict wave ventilation (refused number) = noVerdict
+-- the verdict on a window, by its levels, whether the wave is driven, and the ventilation
+unfoldable pub windowVerdict : Bool → Bool → Evaluation → Verdict
+windowVerdict driven ventilation (levels high low) = verdictOf driven high low ventilation
+windowVerdict driven ventilation (refused number) = noVerdict
 
 -- a sample's verdict: its window, judged by the wave and the ventilation as the call finds them
 unfoldable pub verdict : State → Event Evaluation → Verdict
-verdict s (sample window) = windowVerdict (s .wave) (s .settings .ventilation) window
+verdict s (sample window) = windowVerdict (isDriven s) (s .settings .ventilation) window
 verdict s (limit current) = noVerdict
 verdict s (measure lines) = noVerdict
+verdict s (link granted) = noVerdict
 verdict s (fault kind) = noVerdict
 verdict s clear = noVerdict
 verdict s tick = noVerdict

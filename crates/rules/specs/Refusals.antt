@@ -1,11 +1,12 @@
--- What is refused in a list (document 01, "What a refused call hands back"): 3, then 2, then by number; 0 if the call is accepted.
+-- What is refused in a list (document 01, "What a refused call hands back"; 11 and 12: document 02, e): 3, then 2, then by number, but 12 before 11; 0 if
+-- the call is accepted.
 use mathlib.Core.Bool.{Bool, cond}
 use Prim.Native.Nat.{ℕ}
 use lib.Dec.{eqb, leb, ltb}
 use Rattle.units.specs.Range.{fromTo}
 use Rattle.window.specs.Evaluation.{Evaluation, levels, refused}
 use Rattle.rules.specs.Begin.{tooLate}
-use Rattle.rules.specs.Calls.{Event, sample, limit, measure, fault, clear, tick, EvaluatedCall}
+use Rattle.rules.specs.Calls.{Event, sample, limit, measure, link, fault, clear, tick, EvaluatedCall}
 use Rattle.rules.specs.Lines.{linesAllowed}
 use Rattle.rules.specs.State.{State}
 
@@ -30,15 +31,24 @@ kindAllowed kind = fromTo 3 5 kind
 unfoldable pub limitAllowed : ℕ → Bool
 limitAllowed current = leb current 80000
 
--- 4 to 8, for the arguments
-unfoldable pub argumentRefusal : Event Evaluation → ℕ
-argumentRefusal (sample window) = windowRefusal window
-argumentRefusal (limit current) = cond (limitAllowed current) 0 7
-argumentRefusal (measure lines) = cond (linesAllowed lines) 0 7
-argumentRefusal (fault kind) = cond (kindAllowed kind) 0 8
-argumentRefusal clear = 0
-argumentRefusal tick = 0
+-- the range of a grant: 0 to 80,000
+unfoldable pub grantAllowed : ℕ → Bool
+grantAllowed granted = leb granted 80000
+
+-- 12: a link call to a plain post; then 11: a grant above 80,000
+unfoldable pub linkRefusal : Bool → ℕ → ℕ
+linkRefusal digital granted = cond digital (cond (grantAllowed granted) 0 11) 12
+
+-- 4 to 8, 11 and 12: for the arguments, in a post of this mark
+unfoldable pub argumentRefusal : Bool → Event Evaluation → ℕ
+argumentRefusal digital (sample window) = windowRefusal window
+argumentRefusal digital (limit current) = cond (limitAllowed current) 0 7
+argumentRefusal digital (measure lines) = cond (linesAllowed lines) 0 7
+argumentRefusal digital (link granted) = linkRefusal digital granted
+argumentRefusal digital (fault kind) = cond (kindAllowed kind) 0 8
+argumentRefusal digital clear = 0
+argumentRefusal digital tick = 0
 
 -- the refusal of a call in a list
 unfoldable pub refusal : State → EvaluatedCall → ℕ
-refusal s call = orElse (timeRefusal (s .last) (call .time)) (argumentRefusal (call .event))
+refusal s call = orElse (timeRefusal (s .last) (call .time)) (argumentRefusal (s .settings .digital) (call .event))

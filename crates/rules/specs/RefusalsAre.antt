@@ -1,23 +1,28 @@
 -- When each refusal number comes, exactly: demand 1 of begin, and of a call that is lent any controller, altered or not.
 -- Proved in proofs/RefusalsAre.antt and proofs/BeginRefusals.antt.
 use mathlib.Core.Path.{_≡_}
-use mathlib.Core.Bool.{true}
+use mathlib.Core.Bool.{Bool, true, false}
 use mathlib.Core.List.{List}
 use mathlib.Core.Logic.{_↔_, _⊎_}
 use Prim.Native.Nat.{ℕ, _≤_, _<_}
 use lib.IntN.{ℤ}
-use Rattle.units.specs.Wave.{steadyLow, steadyHigh}
+use Rattle.units.specs.Wave.{fivePercent, steadyLow, steadyHigh}
 use Rattle.units.specs.Range.{Outside}
 use Rattle.window.specs.Laws.{RefusedFor}
 use Rattle.rules.specs.Begin.{Begin, largestTime}
-use Rattle.rules.specs.Calls.{Event, Call, sample, limit, measure, fault, clear, tick}
+use Rattle.rules.specs.Calls.{Event, Call, sample, limit, measure, link, fault, clear, tick}
 use Rattle.rules.specs.Lent.{Lent, mostClosings}
 use Rattle.rules.specs.Lines.{Lines}
 use Rattle.rules.specs.State.{Moment}
 
+-- a wave that is not the driven one of a digital post, or not one of a plain post's
+abbrev pub NotDriven : Bool → ℕ → Type 0
+NotDriven true wave = wave ≡ fivePercent → ⊥
+NotDriven false wave = Outside 100 960 wave
+
 -- a wave out of its range: neither steady nor driven
-abbrev pub WaveOut : ℕ → Type 0
-WaveOut wave = (wave ≡ steadyLow → ⊥) × Outside 100 960 wave × (wave ≡ steadyHigh → ⊥)
+abbrev pub WaveOut : Bool → ℕ → Type 0
+WaveOut digital wave = (wave ≡ steadyLow → ⊥) × NotDriven digital wave × (wave ≡ steadyHigh → ⊥)
 
 -- a stored time above the last accepted one
 abbrev pub StoredAbove : ℕ → Moment → Type 0
@@ -25,8 +30,9 @@ StoredAbove last stored = (stored .set ≡ true) × (last < stored .time)
 
 -- what refusal 1 comes for: a lent controller that the host has altered so that one of these holds
 pub data Altered (lent : Lent) : Type 0 where
-  wave-out : WaveOut (lent .state .wave) → Altered lent
+  wave-out : WaveOut (lent .state .settings .digital) (lent .state .wave) → Altered lent
   limit-out : 80000 < lent .state .limit → Altered lent
+  grant-out : 80000 < lent .state .grant → Altered lent
   rated-out : Outside 6000 80000 (lent .state .settings .rated) → Altered lent
   pause-out : Outside 1000 60000 (lent .state .settings .pause) → Altered lent
   sound-above : StoredAbove (lent .state .last) (lent .state .sound) → Altered lent
@@ -47,24 +53,25 @@ ArgumentsAsked lent call = OnTime lent call × (Altered lent → ⊥)
 abbrev pub AnyLineAbove : Lines → Type 0
 AnyLineAbove lines = (200000 < lines .line1) ⊎ ((200000 < lines .line2) ⊎ (200000 < lines .line3))
 
--- the numbers by which each kind of call is refused for its arguments, and what each is for
-abbrev pub WrongFor : ℕ → Event (List ℤ) → Type 0
-WrongFor number (sample window) = RefusedFor number window
-WrongFor number (limit current) = (number ≡ 7) × (80000 < current)
-WrongFor number (measure lines) = (number ≡ 7) × AnyLineAbove lines
-WrongFor number (fault kind) = (number ≡ 8) × Outside 3 5 kind
-WrongFor number clear = ⊥
-WrongFor number tick = ⊥
+-- the numbers by which each kind of call to a post of this mark is refused for its arguments, and what each is for
+abbrev pub WrongFor : ℕ → Bool → Event (List ℤ) → Type 0
+WrongFor number digital (sample window) = RefusedFor number window
+WrongFor number digital (limit current) = (number ≡ 7) × (80000 < current)
+WrongFor number digital (measure lines) = (number ≡ 7) × AnyLineAbove lines
+WrongFor number digital (link granted) = ((number ≡ 12) × (digital ≡ false)) ⊎ ((number ≡ 11) × (digital ≡ true) × (80000 < granted))
+WrongFor number digital (fault kind) = (number ≡ 8) × Outside 3 5 kind
+WrongFor number digital clear = ⊥
+WrongFor number digital tick = ⊥
 
 -- the number that a call gets for a lent controller: each for its condition and for nothing else, and 0 if none of the conditions holds.
--- From 4 on they are those of the arguments: `WrongFor` has 4, 5 and 6 for a window, 7 and 8.
+-- From 4 on they are those of the arguments: `WrongFor` has 4, 5 and 6 for a window, 7, 8, 11 and 12. 9 and 10 are no call's.
 pub record RefusedBy (lent : Lent) (call : Call) (number : ℕ) : Type 0 where
   pub three : (number ≡ 3) ↔ (largestTime < call .time)
   pub two : (number ≡ 2) ↔ ((call .time ≤ largestTime) × (call .time < lent .state .last))
   pub one : (number ≡ 1) ↔ (OnTime lent call × Altered lent)
-  pub later : (n : ℕ) → 4 ≤ n → (number ≡ n) ↔ (ArgumentsAsked lent call × WrongFor n (call .event))
-  pub none : (number ≡ 0) ↔ (ArgumentsAsked lent call × ((n : ℕ) → WrongFor n (call .event) → ⊥))
-  pub no-other : number ≤ 8
+  pub later : (n : ℕ) → 4 ≤ n → (number ≡ n) ↔ (ArgumentsAsked lent call × WrongFor n (lent .state .settings .digital) (call .event))
+  pub none : (number ≡ 0) ↔ (ArgumentsAsked lent call × ((n : ℕ) → WrongFor n (lent .state .settings .digital) (call .event) → ⊥))
+  pub no-other : (number ≤ 8) ⊎ ((number ≡ 11) ⊎ (number ≡ 12))
 
 -- what begin is refused for by 1: a rated current, or a pause other than 0, that is out of its range
 abbrev pub SettingsOut : Begin → Type 0

@@ -2,11 +2,10 @@
 use mathlib.Core.Bool.{Bool, _||_, cond}
 use Prim.Native.Nat.{ℕ}
 use lib.Dec.{eqb}
-use Rattle.units.specs.Wave.{driven}
 use Rattle.pilot.specs.Bands.{bandE}
 use Rattle.rules.specs.Lent.{Lent}
 use Rattle.rules.specs.Lines.{Lines}
-use Rattle.rules.specs.State.{State, Faults, anyFault}
+use Rattle.rules.specs.State.{State, Faults, anyFault, isDriven}
 use Rattle.rules.specs.Step3Wave.{isSettled}
 
 -- the reply: refusal number (0 if accepted), letter, digit, wave, contactor, fault, closings, and the current on each line
@@ -37,8 +36,8 @@ abbrev pub letterOf : State → ℕ
 letterOf s = letter (anyFault (s .faults)) (s .settled)
 
 -- digit: 0 for U, E and F, else 2 with a driven wave and 1 without
-unfoldable pub digit : ℕ → ℕ → ℕ
-digit shown wave = cond (eqb shown letterU || (eqb shown bandE || eqb shown letterF)) 0 (cond (driven wave) 2 1)
+unfoldable pub digit : ℕ → Bool → ℕ
+digit shown driven = cond (eqb shown letterU || (eqb shown bandE || eqb shown letterF)) 0 (cond driven 2 1)
 
 -- some latched fault, here the lowest; 0 if none. The paper leaves open which.
 unfoldable pub faultShown : Faults → ℕ
@@ -55,7 +54,7 @@ shown number lent =
     record {
       refusal = number;
       letter = letterOf (lent .state);
-      digit = digit (letterOf (lent .state)) (lent .state .wave);
+      digit = digit (letterOf (lent .state)) (isDriven (lent .state));
       wave = lent .state .wave;
       closed = lent .state .closed;
       fault = faultShown (lent .state .faults);

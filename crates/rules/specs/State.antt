@@ -1,7 +1,8 @@
--- What the replay keeps (document 01, demand 3; the lines: document 02, b), and nothing else. Times are in milliseconds, currents in milliamps.
+-- What the replay keeps (document 01, demand 3; the lines: document 02, b; mark and grant: document 02, e), and nothing else. Times are in milliseconds, currents in milliamps.
 use mathlib.Core.Bool.{Bool, true, false, _||_, cond}
 use Prim.Native.Nat.{ℕ}
 use Rattle.units.specs.Range.{ago, longerAgo}
+use Rattle.units.specs.Wave.{drivenIn}
 use Rattle.pilot.specs.declared.verdicts.Verdict.{Verdict}
 use Rattle.pilot.specs.Bands.{noBand}
 use Rattle.rules.specs.Lines.{Lines}
@@ -52,11 +53,13 @@ keptSample verdict = record { kept = true; verdict = verdict }
 abbrev pub unsettled : ℕ
 unsettled = 0
 
--- rated current, pause and ventilation; in a state the pause is the one in force
+-- rated current, pause, ventilation and mark; in a state the pause is the one in force
 pub record Settings : Type 0 where
   pub rated : ℕ
   pub pause : ℕ
   pub ventilation : Bool
+  -- the mark: the post is digital, or else plain
+  pub digital : Bool
 
 -- the latched faults: 1 no diode, 2 over-current, 3 residual current, 4 welded contact, 5 over-temperature
 pub record Faults : Type 0 where
@@ -79,6 +82,8 @@ pub record State : Type 0 where
   pub settings : Settings
   -- the depot's limit
   pub limit : ℕ
+  -- the current granted by link
+  pub grant : ℕ
   -- the wave command
   pub wave : ℕ
   -- the contactor is closed
@@ -97,3 +102,7 @@ pub record State : Type 0 where
   pub previous : Previous
   -- the three currents of the last accepted measure
   pub lines : Lines
+
+-- the wave is driven
+abbrev pub isDriven : State → Bool
+isDriven s = drivenIn (s .settings .digital) (s .wave)

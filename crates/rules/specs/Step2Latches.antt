@@ -38,6 +38,7 @@ stepLatch faultCall time pair s =
     record {
       settings = s .settings;
       limit = s .limit;
+      grant = s .grant;
       wave = s .wave;
       closed = s .closed;
       settled = cond (unsettles faultCall time pair s) unsettled (s .settled);

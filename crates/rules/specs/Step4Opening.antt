@@ -40,6 +40,7 @@ stepOpening time pair s =
     record {
       settings = s .settings;
       limit = s .limit;
+      grant = s .grant;
       wave = s .wave;
       closed = s .closed && not (opens time pair s);
       settled = s .settled;

@@ -1,18 +1,25 @@
 -- Step 5 of an accepted call: closing.
 use mathlib.Core.Bool.{Bool, _&&_, _||_, not, cond}
 use Prim.Native.Nat.{ℕ, suc}
-use Rattle.units.specs.Wave.{driven}
+use lib.Dec.{leb}
 use Rattle.rules.specs.Pairs.{Pair, bothProven}
-use Rattle.rules.specs.State.{State, neverOrAgo}
+use Rattle.rules.specs.State.{State, isDriven, neverOrAgo}
 
 -- no opening yet, or the pause has passed since the last one
 unfoldable pub pauseOver : ℕ → State → Bool
 pauseOver time s = neverOrAgo (s .settings .pause) time (s .opening)
 
--- the closing conditions, all of them: the contactor is open, and this call did not open it; the wave is driven; the call is a
--- sample and makes a proven pair in one band (`bothProven` asks for both); and the pause is over
+-- a grant of at least 6,000, which a digital post needs to close (document 02, e)
+unfoldable pub granted : Bool → ℕ → Bool
+granted digital grant = not digital || leb 6000 grant
+
+-- the closing conditions, all of them: the contactor is open, and this call did not open it; the wave is driven; a digital post has its grant; the
+-- call is a sample and makes a proven pair in one band (`bothProven` asks for both); and the pause is over
 unfoldable pub closes : Bool → ℕ → Pair → State → Bool
-closes opened time pair s = not (s .closed) && (not opened && (driven (s .wave) && (bothProven pair && pauseOver time s)))
+closes opened time pair s =
+    not (s .closed)
+    && (not opened
+    && (isDriven s && (granted (s .settings .digital) (s .grant) && (bothProven pair && pauseOver time s))))
 
 -- closings grows by 1
 unfoldable pub closingsBy : Bool → ℕ → ℕ
@@ -24,6 +31,7 @@ stepClosing opened time pair s =
     record {
       settings = s .settings;
       limit = s .limit;
+      grant = s .grant;
       wave = s .wave;
       closed = s .closed || closes opened time pair s;
       settled = s .settled;

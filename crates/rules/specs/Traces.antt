@@ -3,7 +3,7 @@ use mathlib.Core.Bool.{Bool}
 use mathlib.Core.List.{List}
 use Prim.Native.Nat.{ℕ, zero, suc}
 use lib.ListN.{length, getD, take}
-use Rattle.rules.specs.Accepted.{closesAt, causeAt}
+use Rattle.rules.specs.Accepted.{grantAt, closesAt, causeAt}
 use Rattle.rules.specs.Answer.{begun, replyTo, lentAfter}
 use Rattle.rules.specs.Begin.{Begin}
 use Rattle.rules.specs.Calls.{Call, EvaluatedCall, tick, evaluatedCall, isSample}
@@ -40,6 +40,8 @@ module _ (begin : Begin) (calls : List Call) where
         verdict = λ k. verdict (before k) (callAt k .event);
         closes = λ k. closesAt (before k) (callAt k);
         cause = λ k. causeAt (before k) (callAt k);
+        digital = begin .digital;
+        grant = λ k. grantAt (before k) (callAt k);
         pause = λ k. before k .settings .pause;
       }
 

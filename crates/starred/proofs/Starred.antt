@@ -1,6 +1,6 @@
 -- The starred rows of document 01, "Bench figures": one list, and one proposition over it. Each side of a row is computed.
 use mathlib.Core.Path.{_≡_, refl, _∙_}
-use mathlib.Core.Bool.{false}
+use mathlib.Core.Bool.{Bool, false}
 use mathlib.Core.List.{List, [], _∷_, map}
 use Prim.Native.Nat.{ℕ}
 use lib.IntN.{ℤ, pos}
@@ -35,7 +35,7 @@ pub data Row : Type 0 where
   reads : ℕ → Reads → Row
   -- a high level, and its band
   hasBand : ℤ → ℕ → Row
-  -- a high level that makes a sample unsound, whatever the wave and the low level
+  -- a high level that makes a sample unsound, driven or not, whatever the low level
   unsound : ℤ → Row
   -- begin's values and reply, calls with windows of 256 readings and their replies, and the controller after them: there are runs, and so it is in each
   runs : Begin → Reply → List Entry → Lent → Row
@@ -45,7 +45,7 @@ abbrev pub Holds : Row → Type 0
 Holds (gives available sent) = dutyFor available ≡ sent
 Holds (reads d reading) = readingOf d ≡ reading
 Holds (hasBand high band) = bandOf high ≡ band
-Holds (unsound high) = (wave : ℕ) (low : ℤ) → sound wave high low ≡ false
+Holds (unsound high) = (driven : Bool) (low : ℤ) → sound driven high low ≡ false
 Holds (runs begin first entries after) =
     ((lent : Controller) → HasRun lent begin (map (λ entry. callOf (entry .call)) entries))
     × ((begun : HostReply) (replies : List HostReply) (final : Controller)
@@ -57,8 +57,9 @@ abbrev pub afterFirstCharge : Lent
 afterFirstCharge =
     record {
       state = record {
-        settings = record { rated = 32000; pause = 10000; ventilation = false };
+        settings = record { rated = 32000; pause = 10000; ventilation = false; digital = false };
         limit = 32000;
+        grant = 0;
         wave = 533;
         closed = false;
         settled = bandC;
@@ -78,7 +79,7 @@ afterFirstCharge =
 abbrev pub firstChargeRun : Row
 firstChargeRun =
     runs
-    (record { time = 0; rated = 32000; pause = 0; ventilation = false })
+    (record { time = 0; rated = 32000; pause = 0; ventilation = false; digital = false })
     (record { refusal = 0; letter = letterU; digit = 0; wave = 1000; closed = false; fault = 0; closings = 0; lines = noCurrents })
     (firstCharge .entries)
     afterFirstCharge
@@ -123,7 +124,7 @@ begun-computed : shown 0 (at32A 0) ≡ record { refusal = 0; letter = letterU; d
 unfolding computed
 begun-computed = refl
 
-begin-right : beginRefusal (record { time = 0; rated = 32000; pause = 0; ventilation = false }) ≡ 0
+begin-right : beginRefusal (record { time = 0; rated = 32000; pause = 0; ventilation = false; digital = false }) ≡ 0
 unfolding beginRefusal ratedAllowed fromTo
 begin-right = refl
 

@@ -5,10 +5,10 @@ pub mod conditions; // conditions.rt: conditions put together
 ghost use mathlib.Core.Path.{_≡_};
 ghost use mathlib.Core.Bool.{cond};
 ghost use Prim.Native.Nat.{min, max};
-ghost use lib.Dec.{leb, ltb};
+ghost use lib.Dec.{eqb, leb, ltb};
 ghost use lib.Signed.{leZ, ltZ};
 ghost use Rattle.units.specs.Range.{within, strictlyBetween, ago, longerAgo, higher, lower};
-ghost use Rattle.units.specs.Wave.{driven};
+ghost use Rattle.units.specs.Wave.{driven, fivePercent, drivenIn};
 
 // A level of the control pilot, in millivolts.
 #[repr(C)]
@@ -81,6 +81,12 @@ impl Milliamps {
         self.0 < other.0
     }
 
+    pub fn at_least(self, other: Milliamps) -> bool
+        ensures { λ r. ⌜ r ≡ leb (other .0) (self .0) ⌝ }
+    {
+        other.0 <= self.0
+    }
+
     pub fn lesser(self, other: Milliamps) -> Milliamps
         ensures { λ r. ⌜ r .0 ≡ min (self .0) (other .0) ⌝ }
     {
@@ -128,9 +134,26 @@ impl Millis {
     }
 }
 
-// The wave command is a driven square wave.
+// The wave command is a square wave of a plain post: 100 to 960.
 pub fn driven(wave: u32) -> bool
     ensures { λ r. ⌜ r ≡ driven wave ⌝ }
 {
     100 <= wave && wave <= 960
+}
+
+// 5 %, which a digital post drives.
+pub fn is_five_percent(wave: u32) -> bool
+    ensures { λ r. ⌜ r ≡ eqb wave fivePercent ⌝ }
+{
+    wave == 50
+}
+
+// The wave command is driven, by the post's mark.
+pub fn driven_in(digital: bool, wave: u32) -> bool
+    ensures { λ r. ⌜ r ≡ drivenIn digital wave ⌝ }
+{
+    let five = is_five_percent(wave);
+    let agreed = conditions::both(digital, five);
+    let driven = driven(wave);
+    conditions::either(agreed, driven)
 }

@@ -9,10 +9,10 @@ use units::conditions;
 ghost use mathlib.Core.Path.{_≡_};
 ghost use mathlib.Core.Bool.{cond};
 ghost use lib.Dec.{eqb};
-ghost use Rattle.units.specs.Wave.{steadyLow, steadyHigh};
+ghost use Rattle.units.specs.Wave.{fivePercent, steadyLow, steadyHigh};
 ghost use Rattle.duty.specs.Answers.{asSends};
 ghost use Rattle.duty.specs.DutyFor.{dutyFor};
-ghost use Rattle.rules.specs.Step3Wave.{isUAE, unventilatedD, noDuty, sent, waveOf, lowersDuty, restarts, overrunUnder, stopUnder};
+ghost use Rattle.rules.specs.Step3Wave.{isUAE, unventilatedD, noDuty, sent, drivenWave, waveOf, lowersDuty, restarts, overrunUnder, stopUnder};
 ghost use Rattle.parts.specs.Views.{asMoment};
 
 // Settled U, A or E.
@@ -33,8 +33,8 @@ pub fn unventilated_d(settled: u8, ventilation: bool) -> bool
     conditions::both(d, !ventilation)
 }
 
-// No duty is sent, though there is no fault.
-fn no_duty(available: Milliamps, settled: u8, ventilation: bool) -> bool
+// No duty by the plain rules, though there is no fault.
+pub fn no_duty(available: Milliamps, settled: u8, ventilation: bool) -> bool
     ensures { λ r. ⌜ r ≡ noDuty (available .0) settled ventilation ⌝ }
 {
     let too_low = available.below(Milliamps(6000));
@@ -60,6 +60,14 @@ fn sent_for(available: Milliamps) -> u32
     sent(greatest)
 }
 
+// 5 % in a digital post, else the duty for the available current.
+fn driven_wave(digital: bool, available: Milliamps) -> u32
+    ensures { λ r. ⌜ r ≡ drivenWave digital (available .0) ⌝ }
+{
+    let duty = sent_for(available);
+    if digital { 50 } else { duty }
+}
+
 fn wave_by(faulted: bool, high: bool, duty: u32) -> u32
     ensures { λ r. ⌜ r ≡ cond faulted steadyLow (cond high steadyHigh duty) ⌝ }
 {
@@ -72,39 +80,38 @@ fn wave_by(faulted: bool, high: bool, duty: u32) -> u32
     }
 }
 
-// The wave of a post: steady -12 V with a fault, steady +12 V where no duty is sent, else the duty.
-pub fn wave_for(faulted: bool, available: Milliamps, settled: u8, ventilation: bool) -> u32
-    ensures { λ r. ⌜ r ≡ waveOf faulted (available .0) settled ventilation ⌝ }
+// The wave of a post: steady -12 V with a fault, steady +12 V where it is held there, else the driven one.
+pub fn wave_for(faulted: bool, held: bool, digital: bool, available: Milliamps) -> u32
+    ensures { λ r. ⌜ r ≡ waveOf faulted held (drivenWave digital (available .0)) ⌝ }
 {
-    let high = no_duty(available, settled, ventilation);
-    let duty = sent_for(available);
-    wave_by(faulted, high, duty)
+    let driven = driven_wave(digital, available);
+    wave_by(faulted, held, driven)
 }
 
 // A driven duty is lowered to another driven one: `old` is the wave as the call finds it.
-fn lowers_duty(old: u32, wave: u32) -> bool
-    ensures { λ r. ⌜ r ≡ lowersDuty old wave ⌝ }
+fn lowers_duty(digital: bool, old: u32, wave: u32) -> bool
+    ensures { λ r. ⌜ r ≡ lowersDuty digital old wave ⌝ }
 {
-    let was_driven = units::driven(old);
-    let driven = units::driven(wave);
+    let was_driven = units::driven_in(digital, old);
+    let driven = units::driven_in(digital, wave);
     let lower = wave < old;
     conditions::all(was_driven, driven, lower)
 }
 
 // A lowered duty restarts a running over-run: the van has its 5 s to follow.
-fn restarts(old: u32, wave: u32, overrun: Moment) -> bool
-    ensures { λ r. ⌜ r ≡ restarts old wave (asMoment overrun) ⌝ }
+fn restarts(digital: bool, old: u32, wave: u32, overrun: Moment) -> bool
+    ensures { λ r. ⌜ r ≡ restarts digital old wave (asMoment overrun) ⌝ }
 {
-    let lowers = lowers_duty(old, wave);
+    let lowers = lowers_duty(digital, old, wave);
     conditions::both(lowers, overrun.set)
 }
 
 // An over-run ends where the wave is not driven, and restarts at the call's own time where the duty is lowered.
-pub fn overrun_under(time: Millis, old: u32, wave: u32, overrun: Moment) -> Moment
-    ensures { λ r. ⌜ asMoment r ≡ overrunUnder (time .0) old wave (asMoment overrun) ⌝ }
+pub fn overrun_under(digital: bool, time: Millis, old: u32, wave: u32, overrun: Moment) -> Moment
+    ensures { λ r. ⌜ asMoment r ≡ overrunUnder digital (time .0) old wave (asMoment overrun) ⌝ }
 {
-    let driven = units::driven(wave);
-    let again = restarts(old, wave, overrun);
+    let driven = units::driven_in(digital, wave);
+    let again = restarts(digital, old, wave, overrun);
     let here = Moment::set_to(time);
     let none = Moment::empty();
     let runs = moments::pick(again, here, overrun);
@@ -118,11 +125,11 @@ fn is_high(wave: u32) -> bool
 }
 
 // A stop starts where the contactor is closed and the wave high, and ends where the wave is driven.
-pub fn stop_under(time: Millis, wave: u32, closed: bool, stop: Moment) -> Moment
-    ensures { λ r. ⌜ asMoment r ≡ stopUnder (time .0) wave closed (asMoment stop) ⌝ }
+pub fn stop_under(digital: bool, time: Millis, wave: u32, closed: bool, stop: Moment) -> Moment
+    ensures { λ r. ⌜ asMoment r ≡ stopUnder digital (time .0) wave closed (asMoment stop) ⌝ }
 {
     let high = is_high(wave);
-    let driven = units::driven(wave);
+    let driven = units::driven_in(digital, wave);
     let none = Moment::empty();
     let unless_driven = moments::pick(driven, none, stop);
     let runs = stop.started_by(time);

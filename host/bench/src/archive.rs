@@ -19,7 +19,14 @@ impl Archive {
     pub fn begin(b: &Begin) -> (Archive, Reply) {
         let mut controller = Controller::ZEROED;
         let reply = unsafe {
-            raw::chuldariin_begin(&mut controller, b.time, b.rated, b.pause, b.ventilation)
+            raw::chuldariin_begin(
+                &mut controller,
+                b.time,
+                b.rated,
+                b.pause,
+                b.ventilation,
+                b.digital,
+            )
         };
         (Archive { controller }, reply)
     }
@@ -39,6 +46,10 @@ impl Archive {
     pub fn measure_lines(&mut self, time: u64, lines: [u32; 3]) -> Reply {
         let [line1, line2, line3] = lines;
         unsafe { raw::chuldariin_measure_lines(&mut self.controller, time, line1, line2, line3) }
+    }
+
+    pub fn link(&mut self, time: u64, granted: u32) -> Reply {
+        unsafe { raw::chuldariin_link(&mut self.controller, time, granted) }
     }
 
     pub fn fault(&mut self, time: u64, kind: u32) -> Reply {
@@ -61,6 +72,7 @@ impl Archive {
             // One current, by the call that takes one.
             Event::Measure([current, 0, 0]) => self.measure(time, current),
             Event::Measure(lines) => self.measure_lines(time, lines),
+            Event::Link(granted) => self.link(time, granted),
             Event::Fault(kind) => self.fault(time, kind),
             Event::Clear => self.clear(time),
             Event::Tick => self.tick(time),

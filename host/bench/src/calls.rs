@@ -1,7 +1,7 @@
 //! The calls without a window: the archive against the model.
 
 use crate::archive::Archive;
-use crate::drive::{charging, idle, Pair, DRIVEN_TO};
+use crate::drive::{charging, idle, linked, Pair, DRIVEN_TO};
 use crate::table::{ns, spread, Table};
 use crate::timing::{contest, median, ratio, Contestant, Effort, Times};
 use chuldariin::raw::Reply;
@@ -18,31 +18,47 @@ struct Kind {
     values: fn() -> Vec<u32>,
 }
 
+const TICK: Kind = Kind {
+    name: "tick",
+    archive: |archive, _| archive.tick(DRIVEN_TO),
+    event: |_| Event::Tick,
+    values: || vec![0],
+};
+
+const MEASURE: Kind = Kind {
+    name: "measure",
+    archive: |archive, current| archive.measure(DRIVEN_TO, current),
+    event: Event::measure_one,
+    values: measures,
+};
+
 /// Calls that leave a controller as it was, but for what they store.
 const IN_PLACE: [Kind; 4] = [
-    Kind {
-        name: "tick",
-        archive: |archive, _| archive.tick(DRIVEN_TO),
-        event: |_| Event::Tick,
-        values: || vec![0],
-    },
+    TICK,
     Kind {
         name: "limit",
         archive: |archive, current| archive.limit(DRIVEN_TO, current),
         event: Event::Limit,
         values: limits,
     },
-    Kind {
-        name: "measure",
-        archive: |archive, current| archive.measure(DRIVEN_TO, current),
-        event: Event::measure_one,
-        values: measures,
-    },
+    MEASURE,
     Kind {
         name: "measure, 3 lines",
         archive: |archive, current| archive.measure_lines(DRIVEN_TO, uneven(current)),
         event: |current| Event::Measure(uneven(current)),
         values: measures,
+    },
+];
+
+/// Such calls to a digital post.
+const BY_LINK: [Kind; 3] = [
+    TICK,
+    MEASURE,
+    Kind {
+        name: "link",
+        archive: |archive, granted| archive.link(DRIVEN_TO, granted),
+        event: Event::Link,
+        values: limits,
     },
 ];
 
@@ -62,12 +78,12 @@ const ON_A_COPY: [Kind; 2] = [
     },
 ];
 
-/// Limits under which a wave stays driven, mA.
+/// Limits and grants under which a wave stays driven, mA.
 pub fn limits() -> Vec<u32> {
     changing(6_000, 80_000)
 }
 
-/// Measures below and above what wave 533 allows, mA.
+/// Measures below and above what wave 533, or a grant of 32,000, allows, mA.
 pub fn measures() -> Vec<u32> {
     changing(0, 70_000)
 }
@@ -110,8 +126,11 @@ fn time(kind: Kind, lent: &Pair, on_a_copy: bool, effort: Effort) -> Vec<Times> 
     contest(contestants, effort)
 }
 
-/// The table of some kinds, in a controller that charges and in one that is idle.
-fn print(kinds: &[Kind], on_a_copy: bool, effort: Effort) {
+/// A controller, and what it does.
+type Lent = (&'static str, Pair);
+
+/// The table of some kinds, with each of these controllers.
+fn print(kinds: &[Kind], controllers: &[Lent], on_a_copy: bool, effort: Effort) {
     let mut table = Table::new(&[
         "call",
         "controller",
@@ -120,8 +139,8 @@ fn print(kinds: &[Kind], on_a_copy: bool, effort: Effort) {
         "archive / model",
     ]);
     for &kind in kinds {
-        for (state, lent) in [("charging", charging()), ("idle", idle())] {
-            let times = time(kind, &lent, on_a_copy, effort);
+        for (state, lent) in controllers {
+            let times = time(kind, lent, on_a_copy, effort);
             let ratio = ratio(&times[0], &times[1]);
             table.row(vec![
                 kind.name.to_string(),
@@ -140,8 +159,11 @@ const HEAD: &str = "\
    charging: closed, wave driven, so that a measure is judged; idle: open, no van.";
 
 pub fn run(effort: Effort) {
+    let plain = [("charging", charging()), ("idle", idle())];
     println!("{HEAD}\n");
-    print(&IN_PLACE, false, effort);
+    print(&IN_PLACE, &plain, false, effort);
+    println!("In a digital post");
+    print(&BY_LINK, &[("charging", linked())], false, effort);
     println!("On a fresh copy of the controller for each call");
-    print(&ON_A_COPY, true, effort);
+    print(&ON_A_COPY, &plain, true, effort);
 }

@@ -3,7 +3,7 @@
 use crate::drive::{charging, DRIVEN_TO};
 use crate::window::{copies, same, sorting, without_skip, Levels};
 use chuldariin::raw;
-use chuldariin_model::{levels, verdict, Band, State};
+use chuldariin_model::{driven, levels, verdict, Band, State};
 
 /// Upper ends of the bands, mV. One more has no band.
 const UPPER_ENDS: [i32; 5] = [13_000, 10_000, 7_000, 4_000, 1_000];
@@ -55,7 +55,8 @@ fn verdict_agrees(window: &[i32], (high, low): Levels) {
 
 /// The verdict that levels give in a controller, as the archive writes it.
 fn expected(state: &State, high: i32, low: i32) -> raw::Verdict {
-    let found = verdict(high, low, state.wave, state.ventilation);
+    let driven = driven(state.digital, state.wave);
+    let found = verdict(high, low, driven, state.ventilation);
     let band = match found.band {
         None => 0,
         Some(Band::A) => b'A',

@@ -3,7 +3,7 @@
 //! The counts of N and of 2N calls differ by N calls and their loop.
 
 use crate::calls::{limits, measures, uneven};
-use crate::drive::{charging, idle, Pair, DRIVEN_TO};
+use crate::drive::{charging, idle, linked, Pair, DRIVEN_TO};
 use crate::options::Options;
 use crate::readings::{self, Order};
 use crate::window::same;
@@ -18,6 +18,7 @@ pub enum Counted {
     Limit,
     Measure,
     MeasureLines,
+    Link,
 }
 
 impl Counted {
@@ -29,6 +30,7 @@ impl Counted {
             "limit" => Some(Counted::Limit),
             "measure" => Some(Counted::Measure),
             "measure-lines" => Some(Counted::MeasureLines),
+            "link" => Some(Counted::Link),
             _ => None,
         }
     }
@@ -36,7 +38,11 @@ impl Counted {
 
 /// Makes the calls, of 1,024 readings if they are samples.
 pub fn run(counted: Counted, calls: usize, options: &Options) {
-    let pair = if options.idle { idle() } else { charging() };
+    let pair = match (options.idle, options.digital) {
+        (true, _) => idle(),
+        (false, true) => linked(),
+        (false, false) => charging(),
+    };
     let rust = options.rust;
     match counted {
         Counted::SampleWorst => {
@@ -51,6 +57,7 @@ pub fn run(counted: Counted, calls: usize, options: &Options) {
             let event = |current| Event::Measure(uneven(current));
             others(pair, event, &measures(), calls, rust);
         }
+        Counted::Link => others(pair, Event::Link, &limits(), calls, rust),
     }
 }
 

@@ -13,6 +13,7 @@ const BEGIN: Begin = Begin {
     rated: 32_000,
     pause: 0,
     ventilation: false,
+    digital: false,
 };
 
 /// The windows of a cycle, 256 readings each.

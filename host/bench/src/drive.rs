@@ -42,20 +42,32 @@ fn agree(reply: &chuldariin::raw::Reply, expected: &chuldariin_model::Reply) {
     assert!(same, "archive and model differ: {reply:?} and {expected:?}");
 }
 
-fn begun() -> Pair {
+fn begun(digital: bool) -> Pair {
     let mut pair = Pair::begin(&Begin {
         time: 0,
         rated: 80_000,
         pause: 0,
         ventilation: false,
+        digital,
     });
     pair.call(0, &Event::Limit(32_000));
     pair
 }
 
-/// Closed, with a driven wave: state C2.
+/// A plain post, closed, with a driven wave: state C2.
 pub fn charging() -> Pair {
-    let mut pair = begun();
+    closed(begun(false))
+}
+
+/// The same of a digital post.
+pub fn linked() -> Pair {
+    let mut pair = begun(true);
+    pair.call(0, &Event::Link(32_000));
+    closed(pair)
+}
+
+/// A van comes, and is ready.
+fn closed(mut pair: Pair) -> Pair {
     let connected = square(9_000, 9_000, 20, 256);
     let ready = square(6_000, -12_000, 20, 256);
     for (time, window) in [
@@ -70,9 +82,9 @@ pub fn charging() -> Pair {
     pair
 }
 
-/// Open, with no van: state A1.
+/// A plain post, open, with no van: state A1.
 pub fn idle() -> Pair {
-    let mut pair = begun();
+    let mut pair = begun(false);
     let empty = square(12_000, 12_000, 20, 256);
     for time in [30, DRIVEN_TO] {
         pair.call(time, &Event::Sample(&empty));

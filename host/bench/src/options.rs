@@ -4,13 +4,14 @@ use crate::count::Counted;
 
 pub const USAGE: &str = "\
 chuldariin-bench [--quick] [--only window|calls|cycle|growth]
-chuldariin-bench --count sample-worst|sample-clean|tick|limit|measure|measure-lines N [--rust] [--idle]
+chuldariin-bench --count sample-worst|sample-clean|tick|limit|measure|measure-lines|link N [--rust] [--idle|--digital]
 
   --quick   few short rounds, to see that it runs
   --only    one of the four parts
   --count   N such calls and nothing else after set-up, to be counted from outside
   --rust    count the same algorithm, or the model, in place of the archive
-  --idle    count in a controller that is idle, in place of one that charges";
+  --idle    count in a controller that is idle, in place of one that charges
+  --digital count in a digital post that charges, in place of a plain one, which refuses a link call";
 
 #[derive(Clone, Copy, PartialEq, Eq)]
 pub enum Part {
@@ -27,6 +28,7 @@ pub struct Options {
     pub count: Option<(Counted, usize)>,
     pub rust: bool,
     pub idle: bool,
+    pub digital: bool,
 }
 
 impl Options {
@@ -38,6 +40,7 @@ impl Options {
                 "--quick" => options.quick = true,
                 "--rust" => options.rust = true,
                 "--idle" => options.idle = true,
+                "--digital" => options.digital = true,
                 "--only" => options.only = Some(part(&arguments.next()?)?),
                 "--count" => {
                     let counted = Counted::named(&arguments.next()?)?;

@@ -25,6 +25,7 @@ fn main() -> Result<(), Refusal> {
         rated: Milliamps(32_000),
         pause: Millis(0), // stands for 10 s
         ventilation: false,
+        digital: false,
     };
     let (mut post, reply) = Post::begin(begin)?;
     show(0, "begin, rated 32 A", Ok(reply));

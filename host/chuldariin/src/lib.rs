@@ -17,7 +17,7 @@
 //!         Err(_) => drive(0, false),
 //!     }
 //! }
-//! # let begin = Begin { time: Millis(0), rated: Milliamps(6_000), pause: Millis(0), ventilation: true };
+//! # let begin = Begin { time: Millis(0), rated: Milliamps(6_000), pause: Millis(0), ventilation: true, digital: false };
 //! # let (mut post, _) = Post::begin(begin)?;
 //! # turn(&mut post, Millis(20), &[9_000; 255]);
 //! # assert_eq!(post.controller().last, 20);
@@ -34,6 +34,7 @@
 //!     rated: Milliamps(32_000),
 //!     pause: Millis(0), // stands for 10 s
 //!     ventilation: false,
+//!     digital: false,
 //! })?;
 //! post.limit(Millis(0), Milliamps(32_000))?;
 //!
@@ -79,6 +80,8 @@ pub struct Begin {
     pub pause: Millis,
     /// Whether the post has ventilation.
     pub ventilation: bool,
+    /// The mark: a digital post drives 5 %, and takes the current that was agreed over the link.
+    pub digital: bool,
 }
 
 /// A post's controller.
@@ -92,7 +95,7 @@ impl Post {
     ///
     /// ```
     /// use chuldariin::{Begin, Milliamps, Millis, Post, Refusal};
-    /// let begin = Begin { time: Millis(0), rated: Milliamps(5_999), pause: Millis(0), ventilation: false };
+    /// let begin = Begin { time: Millis(0), rated: Milliamps(5_999), pause: Millis(0), ventilation: false, digital: false };
     /// assert_eq!(Post::begin(begin).unwrap_err(), Refusal::Settings);
     /// ```
     pub fn begin(begin: Begin) -> Result<(Post, Reply), Refusal> {
@@ -110,10 +113,18 @@ impl Post {
             rated,
             pause,
             ventilation,
+            digital,
         } = begin;
         // SAFETY: a `&mut` is what the archive asks of the pointer.
         let reply = unsafe {
-            raw::chuldariin_begin(&mut self.controller, time.0, rated.0, pause.0, ventilation)
+            raw::chuldariin_begin(
+                &mut self.controller,
+                time.0,
+                rated.0,
+                pause.0,
+                ventilation,
+                digital,
+            )
         };
         reply::accepted(reply)
     }
@@ -141,8 +152,9 @@ impl Post {
     }
 
     /// The current measured on each line, line 1 first, 0 to 200,000 mA each. With the contactor closed and
-    /// the wave driven, more than 1.1 times the announced current on any of them is an over-run, which is
-    /// fault 2 after 5 s.
+    /// the wave driven, more than 1.1 times the allowed current on any of them is an over-run, which is
+    /// fault 2 after 5 s. A plain post allows what its duty announces, a digital one the least of grant,
+    /// rated and limit.
     pub fn measure_lines(&mut self, time: Millis, lines: [Milliamps; 3]) -> Result<Reply, Refusal> {
         let [line1, line2, line3] = lines.map(|line| line.0);
         // SAFETY: as in begin_again.
@@ -156,6 +168,14 @@ impl Post {
     pub fn measure(&mut self, time: Millis, current: Milliamps) -> Result<Reply, Refusal> {
         // SAFETY: as in begin_again.
         reply::accepted(unsafe { raw::chuldariin_measure(&mut self.controller, time.0, current.0) })
+    }
+
+    /// The current that was agreed over the digital link, 0 to 80,000 mA; a plain post refuses it. A digital
+    /// post closes with 6,000 or more, and stops its van while it is closed with less. With A settled the
+    /// grant is 0, so it is told after B was.
+    pub fn link(&mut self, time: Millis, granted: Milliamps) -> Result<Reply, Refusal> {
+        // SAFETY: as in begin_again.
+        reply::accepted(unsafe { raw::chuldariin_link(&mut self.controller, time.0, granted.0) })
     }
 
     /// A fault from outside: residual current, welded contact or over-temperature. The other two are
@@ -184,7 +204,7 @@ impl Post {
         &self.controller
     }
 
-    /// A post with this controller, whatever it holds. The next call refuses one whose wave, limit,
+    /// A post with this controller, whatever it holds. The next call refuses one whose wave, limit, grant,
     /// rated current, pause, stored times or closings are out of range; any other is taken as it is,
     /// also with currents that no measure could have brought.
     pub fn with(controller: raw::Controller) -> Post {

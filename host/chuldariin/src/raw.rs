@@ -13,6 +13,8 @@ pub struct Settings {
     pub rated: u32,
     /// Whether the post has ventilation.
     pub ventilation: bool,
+    /// The mark: whether the post is digital.
+    pub digital: bool,
 }
 
 /// A time that may be empty.
@@ -84,6 +86,8 @@ pub struct Controller {
     pub settings: Settings,
     /// The depot's limit, mA.
     pub limit: u32,
+    /// The current granted by link, mA.
+    pub grant: u32,
     /// The wave command, in tenths of a percent.
     pub wave: u32,
     /// The contactor command.
@@ -91,6 +95,7 @@ pub struct Controller {
     /// The settled state, `b'A'` to `b'E'`; any other number is U.
     pub settled: u8,
     pub faults: Faults,
+    pub previous: Previous,
     /// The time of the last accepted call, or of begin, ms.
     pub last: u64,
     /// The last sound sample.
@@ -101,7 +106,6 @@ pub struct Controller {
     pub overrun: Moment,
     /// The start of the stop.
     pub stop: Moment,
-    pub previous: Previous,
     /// How often the contactor has closed since begin.
     pub closings: u32,
     /// The currents of the last accepted measure.
@@ -120,8 +124,10 @@ impl Controller {
                 pause: 0,
                 rated: 0,
                 ventilation: false,
+                digital: false,
             },
             limit: 0,
+            grant: 0,
             wave: 0,
             closed: false,
             settled: 0,
@@ -132,11 +138,6 @@ impl Controller {
                 welded: false,
                 temperature: false,
             },
-            last: 0,
-            sound: never,
-            opening: never,
-            overrun: never,
-            stop: never,
             previous: Previous {
                 kept: false,
                 verdict: Verdict {
@@ -146,6 +147,11 @@ impl Controller {
                     diodebad: false,
                 },
             },
+            last: 0,
+            sound: never,
+            opening: never,
+            overrun: never,
+            stop: never,
             closings: 0,
             lines: Lines {
                 line1: 0,
@@ -207,6 +213,7 @@ extern "C" {
         rated: u32,
         pause: u64,
         ventilation: bool,
+        digital: bool,
     ) -> Reply;
     pub fn chuldariin_sample(
         c: *mut Controller,
@@ -223,6 +230,7 @@ extern "C" {
         line3: u32,
     ) -> Reply;
     pub fn chuldariin_measure(c: *mut Controller, time: u64, current: u32) -> Reply;
+    pub fn chuldariin_link(c: *mut Controller, time: u64, granted: u32) -> Reply;
     pub fn chuldariin_fault(c: *mut Controller, time: u64, kind: u32) -> Reply;
     pub fn chuldariin_clear(c: *mut Controller, time: u64) -> Reply;
     pub fn chuldariin_tick(c: *mut Controller, time: u64) -> Reply;
@@ -240,12 +248,13 @@ const _: () = {
     assert!(size_of::<Faults>() == 5 && size_of::<Verdict>() == 4 && size_of::<Previous>() == 5);
     assert!(size_of::<ReadingReply>() == 8 && size_of::<DutyReply>() == 8);
     assert!(offset_of!(Settings, rated) == 8 && offset_of!(Settings, ventilation) == 12);
-    assert!(offset_of!(Controller, limit) == 16 && offset_of!(Controller, wave) == 20);
-    assert!(offset_of!(Controller, closed) == 24 && offset_of!(Controller, settled) == 25);
-    assert!(offset_of!(Controller, faults) == 26 && offset_of!(Controller, last) == 32);
-    assert!(offset_of!(Controller, sound) == 40 && offset_of!(Controller, opening) == 56);
-    assert!(offset_of!(Controller, overrun) == 72 && offset_of!(Controller, stop) == 88);
-    assert!(offset_of!(Controller, previous) == 104 && offset_of!(Controller, closings) == 112);
+    assert!(offset_of!(Settings, digital) == 13 && offset_of!(Controller, limit) == 16);
+    assert!(offset_of!(Controller, grant) == 20 && offset_of!(Controller, wave) == 24);
+    assert!(offset_of!(Controller, closed) == 28 && offset_of!(Controller, settled) == 29);
+    assert!(offset_of!(Controller, faults) == 30 && offset_of!(Controller, previous) == 35);
+    assert!(offset_of!(Controller, last) == 40 && offset_of!(Controller, sound) == 48);
+    assert!(offset_of!(Controller, opening) == 64 && offset_of!(Controller, overrun) == 80);
+    assert!(offset_of!(Controller, stop) == 96 && offset_of!(Controller, closings) == 112);
     assert!(offset_of!(Controller, lines) == 116 && offset_of!(Reply, lines) == 16);
     assert!(offset_of!(Reply, wave) == 4 && offset_of!(Reply, closed) == 8);
     assert!(offset_of!(Reply, fault) == 9 && offset_of!(Reply, closings) == 12);

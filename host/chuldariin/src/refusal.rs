@@ -32,9 +32,13 @@ pub enum Refusal {
     Duty,
     /// 10: a current that no duty announces.
     TooLow,
+    /// 11: a grant out of range.
+    Grant,
+    /// 12: a link call to a plain post.
+    Plain,
 }
 
-const ALL: [Refusal; 10] = [
+const ALL: [Refusal; 12] = [
     Refusal::Settings,
     Refusal::Earlier,
     Refusal::Late,
@@ -45,6 +49,8 @@ const ALL: [Refusal; 10] = [
     Refusal::Kind,
     Refusal::Duty,
     Refusal::TooLow,
+    Refusal::Grant,
+    Refusal::Plain,
 ];
 
 impl Refusal {
@@ -81,6 +87,8 @@ impl Refusal {
             Refusal::Kind => "tell residual current (3), welded contact (4) or over-temperature (5): the controller finds 1 and 2 itself",
             Refusal::Duty => "ask for a duty up to 1000: the unit is a tenth of a percent",
             Refusal::TooLow => "ask for 6,000 mA or more: no duty announces less",
+            Refusal::Grant => "give a grant up to 80,000 mA: is the unit milliamps?",
+            Refusal::Plain => "this post was begun plain, and takes no grant: begin it digital, or leave the link out",
         }
     }
 }

@@ -7,7 +7,8 @@ use std::fmt;
 #[derive(Clone, Copy, Debug, PartialEq, Eq)]
 pub struct Reply {
     pub state: State,
-    /// The wave command: 0 steady -12 V, 1000 steady +12 V, 100 to 960 a duty in tenths of a percent.
+    /// The wave command: 0 steady -12 V, 1000 steady +12 V, else a duty in tenths of a percent: 100 to 960 of a
+    /// plain post, 50 of a digital one.
     pub wave: u32,
     /// The contactor command.
     pub closed: bool,

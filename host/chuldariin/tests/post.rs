@@ -7,6 +7,7 @@ const BEGIN: Begin = Begin {
     rated: Milliamps(32_000),
     pause: Millis(0),
     ventilation: false,
+    digital: false,
 };
 
 fn window(high: i32, low: i32) -> [i32; 256] {
@@ -48,7 +49,7 @@ type Call<'a> = &'a dyn Fn(&mut Post) -> Result<Reply, Refusal>;
 fn every_refusal_leaves_the_controller_alone() {
     let post = charging();
     let uneven: Vec<i32> = (0..256).map(|i| -15_000 + (i % 100) * 300).collect();
-    let refused: [(Refusal, Call); 10] = [
+    let refused: [(Refusal, Call); 11] = [
         (Refusal::Settings, &|p| {
             p.begin_again(Begin {
                 pause: Millis(999),
@@ -69,6 +70,7 @@ fn every_refusal_leaves_the_controller_alone() {
         (Refusal::Current, &|p| {
             p.measure_lines(Millis(50), [0, 0, 200_001].map(Milliamps))
         }),
+        (Refusal::Plain, &|p| p.link(Millis(50), Milliamps(80_001))),
         (Refusal::Kind, &|p| p.fault(Millis(50), Fault::Overcurrent)),
     ];
     for (refusal, call) in refused {
@@ -125,6 +127,34 @@ fn a_lowered_limit_restarts_an_over_run() {
 }
 
 #[test]
+fn a_digital_post_closes_with_its_grant_and_stops_without() {
+    let begin = Begin {
+        digital: true,
+        ..BEGIN
+    };
+    let (mut post, _) = Post::begin(begin).expect("the settings are in range");
+    post.limit(Millis(0), Milliamps(32_000))
+        .expect("a limit in range");
+    let mut sample = |post: &mut Post, time, high, low| {
+        let reply = post.sample(Millis(time), &window(high, low));
+        reply.map(|reply| (reply.state.to_string(), reply.wave, reply.closed))
+    };
+    let told = |state: &str, wave, closed| Ok((state.to_string(), wave, closed));
+    for (time, high, low) in [(10, 9_000, 9_000), (20, 9_000, 9_000), (30, 6_000, -12_000)] {
+        sample(&mut post, time, high, low).expect("a window in range");
+    }
+    assert_eq!(sample(&mut post, 40, 6_000, -12_000), told("C2", 50, false));
+    let refused = post.link(Millis(45), Milliamps(80_001));
+    assert_eq!(refused, Err(Refusal::Grant));
+    post.link(Millis(45), Milliamps(6_000)).expect("a grant");
+    assert_eq!(post.controller().grant, 6_000);
+    assert_eq!(sample(&mut post, 50, 6_000, -12_000), told("C2", 50, true));
+    let reply = post.link(Millis(60), Milliamps(5_999)).expect("a grant");
+    assert_eq!((reply.wave, reply.closed), (1_000, true));
+    assert!(post.controller().stop.set);
+}
+
+#[test]
 fn the_last_measure_is_shown_line_by_line() {
     let mut post = charging();
     let lines = [1_000, 36_000, 2_000].map(Milliamps);
@@ -142,12 +172,12 @@ fn the_last_measure_is_shown_line_by_line() {
 
 #[test]
 fn each_number_has_its_refusal_and_each_refusal_its_advice() {
-    for number in 1..=10 {
-        let refusal = Refusal::of(number).expect("ten refusals");
+    for number in 1..=12 {
+        let refusal = Refusal::of(number).expect("twelve refusals");
         assert_eq!(refusal.number(), number);
         assert!(refusal
             .to_string()
             .starts_with(&format!("refused {number}: ")));
     }
-    assert_eq!((Refusal::of(0), Refusal::of(11)), (None, None));
+    assert_eq!((Refusal::of(0), Refusal::of(13)), (None, None));
 }

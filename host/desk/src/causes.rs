@@ -1,9 +1,10 @@
-//! What happened in a call, and why: closings, openings with their causes, latches, over-runs and stops.
+//! What happened in a call, and why: closings, openings with their causes, latches.
 
-use crate::turn::{Overrun, Sample, Turn};
-use crate::words::{duty, faults, grouped, largest, letter, refusal, why_steady, FAULTS, NUMERALS};
+use crate::grant;
+use crate::running::{overrun, overrun_so_far, stop};
+use crate::turn::{Sample, Turn};
+use crate::words::{faults, grouped, letter, refusal, too_low, FAULTS, NUMERALS};
 use chuldariin_log::Call;
-use chuldariin_model::{reading, Reading, State, OVERRUN_AGE, STOP_AGE};
 
 /// How a note stands out.
 #[derive(Clone, Copy, Debug, PartialEq, Eq)]
@@ -38,8 +39,14 @@ pub fn notes(turn: &Turn) -> Vec<Note> {
         notes.push(note(Kind::Closed, closed(turn)));
     }
     latched(turn, &mut notes);
-    overrun(turn, &mut notes);
-    stop(turn, &mut notes);
+    let others = [
+        grant::lost(turn),
+        overrun(turn),
+        stop(turn),
+        grant::driven_again(turn),
+    ];
+    let others = others.into_iter().flatten();
+    notes.extend(others.map(|words| note(Kind::Event, words)));
     notes
 }
 
@@ -54,7 +61,13 @@ fn begun(turn: &Turn) -> Vec<Note> {
         Call::Begin(begin) if begin.pause == 0 => " (given as 0)",
         _ => "",
     };
-    let words = format!("a new list begins: pause {pause} ms{given}, {ventilation} ventilation");
+    let digital = if turn.after.digital {
+        ", digital post"
+    } else {
+        ""
+    };
+    let words =
+        format!("a new list begins: pause {pause} ms{given}, {ventilation} ventilation{digital}");
     let mut notes = vec![note(Kind::Event, words)];
     if turn.begun_while_closed() {
         notes.insert(
@@ -138,7 +151,8 @@ fn both_off(previous: &Sample, this: &Sample, off: fn(&Sample) -> Off) -> String
     }
 }
 
-fn ago(start: Option<u64>, turn: &Turn) -> String {
+/// How long ago this was.
+pub fn ago(start: Option<u64>, turn: &Turn) -> String {
     match start {
         Some(start) => format!("{} ms ago, at {start}", grouped(turn.after.last - start)),
         None => "in this call".to_string(),
@@ -169,10 +183,19 @@ pub fn because(turn: &Turn, cause: usize) -> String {
             None => "no sound sample so far".to_string(),
         },
         (2, _, _) => "state D, and the post has no ventilation".to_string(),
-        (3, _, _) => format!("the stop began {}", ago(turn.before.stop, turn)),
+        (3, _, _) => stopped(turn),
         (4, _, _) => format!("fault: {}", faults(&turn.after.faults)),
         _ => "two unsound samples in a row".to_string(),
     }
+}
+
+/// The stop's age, and in a digital post what is too low at its end.
+fn stopped(turn: &Turn) -> String {
+    let mut words = vec![format!("the stop began {}", ago(turn.before.stop, turn))];
+    if turn.after.digital {
+        words.extend(too_low(&turn.after, true));
+    }
+    words.join(", and ")
 }
 
 /// What a closing rests on.
@@ -190,111 +213,6 @@ pub fn closed(turn: &Turn) -> String {
         ),
         None => "not opened since begin".to_string(),
     };
-    format!("CLOSED: proven in {band} at {samples}; {rest}")
-}
-
-/// An over-run that starts, ends without a fault, or runs on under another duty.
-fn overrun(turn: &Turn, notes: &mut Vec<Note>) {
-    let words = match (turn.before.overrun, turn.after.overrun, turn.call) {
-        (None, Some(start), call) => format!(
-            "over-run starts: {} is above {}; {}",
-            judged_current(call, &turn.after),
-            allowed(&turn.before),
-            fault_2_due(start)
-        ),
-        (Some(_), Some(start), _) if turn.before.wave != turn.after.wave => {
-            another_duty(turn, start)
-        }
-        (Some(_), None, _) if !turn.outcome.latched[1] => format!("over-run ends, {}", age(turn)),
-        _ => return,
-    };
-    notes.push(note(Kind::Event, words));
-}
-
-/// A lowered duty restarts an over-run, and a raised one leaves it running.
-fn another_duty(turn: &Turn, start: u64) -> String {
-    let (what, way) = match turn.outcome.restarted {
-        true => ("restarts", "lowered"),
-        false => ("runs on", "raised"),
-    };
-    format!(
-        "over-run {what}, {}: the duty is {way} from {} to {}; {}",
-        age(turn),
-        duty(turn.before.wave),
-        duty(turn.after.wave),
-        fault_2_due(start)
-    )
-}
-
-/// How old the over-run is that the call found.
-fn age(turn: &Turn) -> String {
-    let Some(overrun) = turn.overrun else {
-        return String::new();
-    };
-    let age = grouped(turn.after.last - overrun.start);
-    match overrun.restarted() {
-        false => format!("{age} ms old"),
-        true => format!("{age} ms after its restart (it began at {})", overrun.first),
-    }
-}
-
-/// When fault 2 comes to an over-run of this start.
-pub fn fault_2_at(start: u64) -> String {
-    format!("fault 2 at {}", start + OVERRUN_AGE)
-}
-
-/// The same, and what puts it off.
-pub fn fault_2_due(start: u64) -> String {
-    format!(
-        "{} unless it ends or the duty is lowered",
-        fault_2_at(start)
-    )
-}
-
-/// How old an over-run is that latches fault 2.
-fn overrun_so_far(turn: &Turn) -> String {
-    let ago = ago(turn.before.overrun, turn);
-    match turn.overrun.filter(|overrun| overrun.restarted()) {
-        None => format!("the over-run began {ago}"),
-        Some(Overrun { first, .. }) => {
-            format!("the over-run restarted {ago}, when the duty was lowered; it began at {first}")
-        }
-    }
-}
-
-/// What was judged of a measure: its current, or the largest of three with its line.
-fn judged_current(call: &Call, after: &State) -> String {
-    let (line, current) = largest(after.lines);
-    match call {
-        Call::Measure(..) => format!("{} mA", grouped(current)),
-        _ => format!("{} mA on line {line}", grouped(current)),
-    }
-}
-
-/// The largest current that is no over-run: 1.1 times the announced one.
-fn allowed(state: &State) -> String {
-    match reading(state.wave) {
-        Ok(Reading::Current(current)) => format!(
-            "{} (1.1 x {})",
-            grouped(11 * current / 10),
-            grouped(current)
-        ),
-        _ => "nothing".to_string(),
-    }
-}
-
-/// A stop that starts, or that ends before it opens.
-fn stop(turn: &Turn, notes: &mut Vec<Note>) {
-    let words = match (turn.before.stop, turn.after.stop) {
-        (None, Some(start)) => format!(
-            "stop starts: {}; opens at {} unless a wave is driven by then",
-            why_steady(&turn.after),
-            start + STOP_AGE
-        ),
-        (Some(start), None) if !turn.outcome.causes[3] => {
-            format!("stop ends, {} ms old", grouped(turn.after.last - start))
-        }
-        _ => return,
-    };
-    notes.push(note(Kind::Event, words));
+    let grant = grant::shown(&turn.after, "; ");
+    format!("CLOSED: proven in {band} at {samples}; {rest}{grant}")
 }

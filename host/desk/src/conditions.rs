@@ -1,8 +1,9 @@
 //! The closing conditions of a call, each with what it rests on.
 
 use crate::causes::LOW_RULE;
+use crate::grant;
 use crate::turn::{Forgotten, Sample, Turn};
-use crate::words::{call, faults, grouped, letter, wave, why_steady};
+use crate::words::{call, faults, grouped, letter, listed, wave, why_steady};
 use chuldariin_log::Call;
 use chuldariin_model::{driven, in_low_band, Band, Conditions, State, LEAST_CURRENT};
 
@@ -21,7 +22,7 @@ pub fn conditions(turn: &Turn) -> Vec<Condition> {
         holds,
         detail,
     };
-    vec![
+    let mut conditions = vec![
         condition("contactor open before", found.open_before, String::new()),
         condition("not opened in this call", found.not_opened, String::new()),
         condition("a sample call", found.sample, call(turn)),
@@ -34,7 +35,15 @@ pub fn conditions(turn: &Turn) -> Vec<Condition> {
         ),
         condition("both in one band", found.same_band, band_detail(turn)),
         condition("pause", found.pause_over, pause_detail(turn)),
-    ]
+    ];
+    if turn.after.digital {
+        conditions.push(condition(
+            "grant",
+            found.granted,
+            grant::detail(&turn.after),
+        ));
+    }
+    conditions
 }
 
 /// Begin has no step 5, but a contactor that is open after it, and no pause to wait for.
@@ -52,9 +61,10 @@ fn found(turn: &Turn) -> Conditions {
 
 fn wave_detail(turn: &Turn) -> String {
     let wave = wave(turn.after.wave);
-    match driven(turn.after.wave) {
+    match driven(turn.after.digital, turn.after.wave) {
         true => wave,
-        false => format!("{wave}: {}", why_steady(&turn.after)),
+        // A call that opens has chosen its wave with the contactor closed.
+        false => format!("{wave}: {}", why_steady(&turn.after, turn.outcome.opened)),
     }
 }
 
@@ -158,6 +168,7 @@ fn pause_detail(turn: &Turn) -> String {
 pub fn waits_for(turn: &Turn, now: u64) -> String {
     let after = &turn.after;
     let mut waits = waits_for_wave(after);
+    waits.extend(grant::wait(after));
     match after.previous {
         Some(sample) if sample.proven => {
             waits.push(format!("one more proven sample in {}", letter(sample.band)));
@@ -170,10 +181,7 @@ pub fn waits_for(turn: &Turn, now: u64) -> String {
             waits.push(format!("the end of the pause at {end}"));
         }
     }
-    match waits.split_last() {
-        Some((last, rest)) if !rest.is_empty() => format!("{} and {last}", rest.join(", ")),
-        _ => waits.concat(),
-    }
+    listed(&waits)
 }
 
 /// What a wave that is not driven waits for.

@@ -10,7 +10,9 @@
 //! | `turn` | one call, replayed and explained |
 //! | `evaluate` | window to levels, fast |
 //! | `words` | numbers, waves, faults and refusals in words |
-//! | `causes` | what happened in a call: closings, openings with their causes, latches, over-runs, stops |
+//! | `causes` | what happened in a call: closings, openings with their causes, latches |
+//! | `running` | the same of over-runs and stops |
+//! | `grant` | the same of a digital post's grant |
 //! | `table`, `paint` | one aligned line a call |
 //! | `summary` | what a whole log comes to |
 //! | `replay` | the command `replay` |
@@ -24,12 +26,14 @@ pub mod causes;
 pub mod conditions;
 pub mod demo;
 pub mod evaluate;
+pub mod grant;
 pub mod input;
 pub mod options;
 pub mod paint;
 pub mod plot;
 pub mod progress;
 pub mod replay;
+pub mod running;
 pub mod summary;
 pub mod table;
 pub mod turn;

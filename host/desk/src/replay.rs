@@ -17,7 +17,7 @@ use std::io::Write;
 #[derive(Clone, Copy, Debug, PartialEq, Eq)]
 pub enum Only {
     All,
-    /// Those where the reply changed, but for the currents of a measure, or something happened.
+    /// Those where the reply changed, but for the currents of a measure, or the grant, or something happened.
     Changes,
 }
 
@@ -94,6 +94,7 @@ impl Since {
                     lines: turn.reply.lines,
                     ..before
                 } != turn.reply
+                    || turn.before.grant != turn.after.grant
                     || !notes.is_empty()
             }
             false => self.refused_call != Some((turn.reply.refusal, turn.call.word())),

@@ -32,7 +32,8 @@ pub struct Summary {
     by_begin: u64,
     several: u64,
     causes: [u64; 5],
-    refusals: [u64; 8],
+    /// By number; no call is refused 0, 9 or 10.
+    refusals: [u64; 13],
     last_closing: Option<u64>,
     shortest: Option<Spacing>,
     /// Closings that came too soon; the proofs say that there are none.
@@ -49,7 +50,7 @@ impl Summary {
     pub fn see(&mut self, turn: &Turn) {
         self.calls += 1;
         if !turn.accepted() {
-            self.refusals[turn.reply.refusal as usize - 1] += 1;
+            self.refusals[turn.reply.refusal as usize] += 1;
             self.refused_now += 1;
             return;
         }
@@ -175,15 +176,10 @@ impl Summary {
             "  refusals  {}",
             grouped(self.refusals.iter().sum::<u64>())
         )?;
-        for (place, count) in self.refusals.iter().enumerate() {
-            if *count > 0 {
-                let number = place + 1;
-                writeln!(
-                    out,
-                    "    {:>7}  {number:<5} {}",
-                    grouped(*count),
-                    REFUSALS[place]
-                )?;
+        for (number, words) in REFUSALS {
+            let count = self.refusals[number];
+            if count > 0 {
+                writeln!(out, "    {:>7}  {number:<5} {words}", grouped(count))?;
             }
         }
         Ok(())

@@ -3,13 +3,15 @@
 use crate::causes::{Kind, Note};
 use crate::paint::{Colour, Paint};
 use crate::turn::Turn;
-use crate::words::{call, letter, lines, reply_fault, wave};
+use crate::words::{call, grouped, letter, lines, reply_fault, wave};
 use chuldariin_log::{Call, Entry, Line};
 use chuldariin_model::Verdict;
 use std::io::{self, Write};
 
 /// The width of the column for the current on each line: 200,000 three times.
 const LINES: usize = 23;
+/// The width of the column for the grant: its heading.
+const GRANT: usize = 10;
 
 /// Writes the lines of a replay.
 pub struct Table {
@@ -18,6 +20,8 @@ pub struct Table {
     time_width: usize,
     /// A measure has a current for each line, so there is a column for them.
     three_lines: bool,
+    /// A begin is digital, so there is a column for the grant.
+    digital: bool,
 }
 
 impl Table {
@@ -34,16 +38,21 @@ impl Table {
             line_width: last_line.to_string().len().max(4),
             time_width: last_time.to_string().len().max(5),
             three_lines: entries.iter().any(three_lines),
+            digital: entries.iter().any(digital),
         }
     }
 
     pub fn heading(&self, out: &mut impl Write) -> io::Result<()> {
+        let grant = match self.digital {
+            true => format!("  {:>GRANT$}", "grant (mA)"),
+            false => String::new(),
+        };
         let lines = match self.three_lines {
             true => format!("  {:<LINES$}", "lines 1, 2, 3 (mA)"),
             false => String::new(),
         };
         let text = format!(
-            "{:>line$}  {:>time$}  {:<24}  {:<10}  {:<5}  {:<16}  {:<9}  {:<19}  {:>8}{lines}  what happened",
+            "{:>line$}  {:>time$}  {:<24}  {:<10}  {:<5}  {:<16}  {:<9}  {:<19}  {:>8}{grant}{lines}  what happened",
             "line", "ms", "call", "sample", "state", "wave", "contactor", "fault", "closings",
             line = self.line_width,
             time = self.time_width,
@@ -67,6 +76,9 @@ impl Table {
             time = self.time_width,
         )?;
         self.reply_columns(out, turn)?;
+        if self.digital {
+            write!(out, "  {:>GRANT$}", shown_grant(turn))?;
+        }
         if self.three_lines {
             // Nothing is written behind the last word.
             match notes.is_empty() {
@@ -132,6 +144,19 @@ fn shown_lines(turn: &Turn) -> String {
         true => "-".to_string(),
         false => lines(turn.reply.lines.each()),
     }
+}
+
+/// The grant that the controller keeps: no reply shows it, and a plain post has none.
+fn shown_grant(turn: &Turn) -> String {
+    match tells_nothing(turn) || !turn.after.digital {
+        true => "-".to_string(),
+        false => grouped(turn.after.grant),
+    }
+}
+
+/// Is it a digital begin?
+fn digital(entry: &Entry) -> bool {
+    matches!(&entry.what, Line::Call(Call::Begin(begin)) if begin.digital)
 }
 
 /// Is it a measure with a current for each line?

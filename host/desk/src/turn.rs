@@ -37,6 +37,8 @@ pub struct Overrun {
     pub start: u64,
     /// When it first began.
     pub first: u64,
+    /// In a digital post nothing restarts it.
+    pub digital: bool,
 }
 
 impl Overrun {
@@ -74,7 +76,12 @@ impl Turn<'_> {
     pub fn overrun_after(&self) -> Option<Overrun> {
         let start = self.after.overrun?;
         let first = self.overrun.map_or(start, |overrun| overrun.first);
-        Some(Overrun { start, first })
+        let digital = self.after.digital;
+        Some(Overrun {
+            start,
+            first,
+            digital,
+        })
     }
 
     pub fn accepted(&self) -> bool {
@@ -202,13 +209,14 @@ impl Post {
 }
 
 fn sampled(call: &Call, reply: &raw::Reply, levels: Evaluated, before: &State) -> Option<Sample> {
+    let driven = driven(before.digital, before.wave);
     match (call, levels) {
         (&Call::Sample(time, _), Ok((high, low))) if reply.refusal == 0 => Some(Sample {
             time,
             high,
             low,
-            driven: driven(before.wave),
-            verdict: verdict(high, low, before.wave, before.ventilation),
+            driven,
+            verdict: verdict(high, low, driven, before.ventilation),
         }),
         _ => None,
     }

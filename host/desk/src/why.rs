@@ -1,9 +1,11 @@
 //! The command `why`: which closing conditions hold at a time, and which do not.
 
-use crate::causes::{closed, fault_2_due, notes, Kind};
+use crate::causes::{closed, notes, Kind};
 use crate::conditions::{conditions, waits_for};
+use crate::grant;
 use crate::input::Log;
 use crate::paint::{Colour, Paint};
+use crate::running::fault_2_due;
 use crate::table::state;
 use crate::turn::{Post, Turn};
 use crate::words::{call, grouped, lines, wave};
@@ -117,7 +119,7 @@ fn running(last: &Turn, out: &mut impl Write) -> io::Result<()> {
             overrun.start
         ),
     };
-    let due = fault_2_due(overrun.start);
+    let due = fault_2_due(&overrun);
     writeln!(
         out,
         "An over-run runs since {}{restarted}: {due}.",
@@ -152,9 +154,10 @@ fn heading(
     let contactor = if last.reply.closed { "closed" } else { "open" };
     writeln!(
         out,
-        "state {}, wave {}, contactor {contactor}, closings {}{}\n",
+        "state {}, wave {}{}, contactor {contactor}, closings {}{}\n",
         state(last.reply.letter, last.reply.digit),
         wave(last.reply.wave),
+        grant::shown(&last.after, ", "),
         last.reply.closings,
         last_measure(last)
     )

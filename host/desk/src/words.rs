@@ -1,6 +1,7 @@
 //! Numbers, waves, faults and refusals in words.
 
 use crate::evaluate::in_range;
+use crate::grant;
 use crate::turn::Turn;
 use chuldariin::{reading, Reading};
 use chuldariin_log::{Call, Room, Window};
@@ -27,16 +28,18 @@ pub const CAUSES: [&str; 5] = [
 /// The number of each cause.
 pub const NUMERALS: [&str; 5] = ["i", "ii", "iii", "iv", "v"];
 
-/// Each refusal in words, by its number less 1.
-pub const REFUSALS: [&str; 8] = [
-    "settings out of range, or nothing has begun",
-    "the time is before the last accepted call",
-    "the time is above 1,000,000,000,000 ms",
-    "the window's length",
-    "a reading out of range",
-    "no supported reading",
-    "a limit or a measured current too large",
-    "a fault that is not for the host to tell",
+/// Each refusal that a call can get: its number, and what it means.
+pub const REFUSALS: [(usize, &str); 10] = [
+    (1, "settings out of range, or nothing has begun"),
+    (2, "the time is before the last accepted call"),
+    (3, "the time is above 1,000,000,000,000 ms"),
+    (4, "the window's length"),
+    (5, "a reading out of range"),
+    (6, "no supported reading"),
+    (7, "a limit or a measured current too large"),
+    (8, "a fault that is not for the host to tell"),
+    (11, "a grant too large"),
+    (12, "a link call to a plain post"),
 ];
 
 /// A number with a comma before each three digits.
@@ -57,6 +60,14 @@ pub fn grouped(number: impl Into<i128>) -> String {
 pub fn counted(number: u64, name: &str) -> String {
     let plural = if number == 1 { "" } else { "s" };
     format!("{} {name}{plural}", grouped(number))
+}
+
+/// Several things: one, two and three.
+pub fn listed(words: &[String]) -> String {
+    match words.split_last() {
+        Some((last, rest)) if !rest.is_empty() => format!("{} and {last}", rest.join(", ")),
+        _ => words.concat(),
+    }
 }
 
 /// A current in amps: 31,980 mA is 31.98 A.
@@ -117,15 +128,13 @@ pub fn faults(faults: &[bool; 5]) -> String {
     words.join(", ")
 }
 
-/// All that keeps a controller's wave from being driven.
-pub fn why_steady(state: &State) -> String {
+/// All that keeps a controller's wave from being driven, with the contactor closed or open when it was chosen.
+pub fn why_steady(state: &State, closed: bool) -> String {
     let mut why = Vec::new();
     if state.any_fault() {
         why.push(format!("fault latched: {}", faults(&state.faults)));
     }
-    if state.rated.min(state.limit) < LEAST_CURRENT {
-        why.push(format!("limit {} mA is below 6,000", grouped(state.limit)));
-    }
+    why.extend(too_low(state, closed));
     match state.settled {
         None => why.push("no state is settled (U)".to_string()),
         Some(Band::A) => why.push("state A: no van is plugged in".to_string()),
@@ -136,6 +145,18 @@ pub fn why_steady(state: &State) -> String {
         Some(_) => {}
     }
     why.join(", and ")
+}
+
+/// The currents that keep it so: the limit, and in a closed digital post the grant, but for its 0 while A is settled.
+pub fn too_low(state: &State, closed: bool) -> Vec<String> {
+    let mut low = Vec::new();
+    if state.rated.min(state.limit) < LEAST_CURRENT {
+        low.push(format!("limit {} mA is below 6,000", grouped(state.limit)));
+    }
+    if closed && grant::is_low(state) && state.settled != Some(Band::A) {
+        low.push(format!("grant {} mA is below 6,000", grouped(state.grant)));
+    }
+    low
 }
 
 /// A call without its time.
@@ -152,6 +173,7 @@ pub fn call(turn: &Turn) -> String {
         (Call::Limit(_, current), _) => format!("limit {} mA", grouped(*current)),
         (Call::Measure(_, current), _) => format!("measure {} mA", grouped(*current)),
         (Call::MeasureLines(..), _) => "measure on 3 lines".to_string(),
+        (Call::Link(_, granted), _) => format!("link {} mA", grouped(*granted)),
         (Call::Fault(_, kind @ 1..=5), _) => format!("fault {kind} {}", fault(*kind as u8)),
         (Call::Fault(_, kind), _) => format!("fault {}", grouped(*kind)),
         (Call::Clear(_), _) => "clear".to_string(),
@@ -183,6 +205,10 @@ pub fn refusal(turn: &Turn) -> String {
         (7, Call::MeasureLines(_, lines)) => above(lines),
         (7, _) => "a measured current is at most 200,000 mA".to_string(),
         (8, _) => "the host may tell faults 3, 4 and 5".to_string(),
+        (11, _) => "a grant is at most 80,000 mA; check the unit: milliamps".to_string(),
+        (12, _) => {
+            "a plain post takes no grant: begin it digital, or leave the link out".to_string()
+        }
         (number, _) => format!("refusal {number}"),
     }
 }

@@ -37,7 +37,7 @@ fn every_opening_has_its_causes_and_every_closing_misses_nothing() {
     assert!(counts.closings > 5_000);
     // The sets that the lists are known to reach, and each condition that can be missing alone.
     assert_eq!(counts.openings.len(), 16);
-    for alone in [vec![PREVIOUS], vec![BAND], vec![PAUSE]] {
+    for alone in [vec![PREVIOUS], vec![BAND], vec![PAUSE], vec![GRANT]] {
         assert!(counts.missing.contains_key(&alone), "{alone:?}");
     }
 }
@@ -170,6 +170,7 @@ fn named_in_words(turn: &Turn, causes: &[usize]) {
     for cause in causes {
         let reason = because(turn, *cause);
         let figure = match cause {
+            3 if turn.after.digital => " mA is below 6,000",
             0 | 3 => "at ",
             1 => " ms since",
             2 => "state D",
@@ -187,6 +188,7 @@ const THIS: usize = 1;
 const PREVIOUS: usize = 2;
 const BAND: usize = 3;
 const PAUSE: usize = 4;
+const GRANT: usize = 5;
 
 /// The conditions of an open contactor and a sample that do not hold.
 fn missing(turn: &Turn) -> Vec<usize> {
@@ -198,15 +200,16 @@ fn missing(turn: &Turn) -> Vec<usize> {
         c.previous_proven,
         c.same_band,
         c.pause_over,
+        c.granted,
     ];
-    (0..5).filter(|&condition| !held[condition]).collect()
+    (0..6).filter(|&condition| !held[condition]).collect()
 }
 
 /// Closes once every missing condition is granted.
 fn conditions_alone_close(turn: &Turn, before: raw::Controller, missing: &[usize]) {
     // What this sample shows can't be granted: then nothing closes.
     let grants = match missing.contains(&THIS) {
-        true => vec![vec![PREVIOUS, BAND, PAUSE]],
+        true => vec![vec![PREVIOUS, BAND, PAUSE, GRANT]],
         false => subsets(missing),
     };
     // A proven sample was taken under a driven wave, and none ends the wave of an open contactor.
@@ -242,6 +245,7 @@ fn grant(condition: usize, turn: &Turn, lent: &mut raw::Controller) {
             previous.verdict.band = band.map_or(0, |band| b'A' + band as u8);
         }
         PAUSE => lent.opening.set = false,
+        GRANT => lent.grant = 6_000,
         _ => unreachable!("neither the wave nor what this sample shows is granted"),
     }
 }

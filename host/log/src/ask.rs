@@ -9,7 +9,9 @@ pub fn ask(lent: &mut raw::Controller, call: &Call, room: &mut Room) -> raw::Rep
     // SAFETY: `lent` is a `&mut`; a slice has the readings that it says; all else are numbers.
     unsafe {
         match *call {
-            Call::Begin(b) => raw::chuldariin_begin(lent, b.time, b.rated, b.pause, b.ventilation),
+            Call::Begin(b) => {
+                raw::chuldariin_begin(lent, b.time, b.rated, b.pause, b.ventilation, b.digital)
+            }
             Call::Sample(time, ref window) => {
                 let readings = window.readings(room);
                 raw::chuldariin_sample(lent, time, readings.as_ptr(), readings.len())
@@ -19,6 +21,7 @@ pub fn ask(lent: &mut raw::Controller, call: &Call, room: &mut Room) -> raw::Rep
             Call::MeasureLines(time, [line1, line2, line3]) => {
                 raw::chuldariin_measure_lines(lent, time, line1, line2, line3)
             }
+            Call::Link(time, granted) => raw::chuldariin_link(lent, time, granted),
             Call::Fault(time, kind) => raw::chuldariin_fault(lent, time, kind),
             Call::Clear(time) => raw::chuldariin_clear(lent, time),
             Call::Tick(time) => raw::chuldariin_tick(lent, time),

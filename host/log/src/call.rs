@@ -15,6 +15,8 @@ pub enum Call {
     Measure(u64, u32),
     /// The current on each line, line 1 first, mA.
     MeasureLines(u64, [u32; 3]),
+    /// The current granted by link, mA.
+    Link(u64, u32),
     /// Kind 3 residual current, 4 welded contact, 5 over-temperature.
     Fault(u64, u32),
     Clear(u64),
@@ -29,6 +31,7 @@ impl Call {
             | Call::Limit(time, _)
             | Call::Measure(time, _)
             | Call::MeasureLines(time, _)
+            | Call::Link(time, _)
             | Call::Fault(time, _)
             | Call::Clear(time)
             | Call::Tick(time) => *time,
@@ -43,6 +46,7 @@ impl Call {
             Call::Limit(_, current) => Some(Event::Limit(*current)),
             Call::Measure(_, current) => Some(Event::measure_one(*current)),
             Call::MeasureLines(_, lines) => Some(Event::Measure(*lines)),
+            Call::Link(_, granted) => Some(Event::Link(*granted)),
             Call::Fault(_, kind) => Some(Event::Fault(*kind)),
             Call::Clear(_) => Some(Event::Clear),
             Call::Tick(_) => Some(Event::Tick),
@@ -56,6 +60,7 @@ impl Call {
             Call::Sample(..) => "sample",
             Call::Limit(..) => "limit",
             Call::Measure(..) | Call::MeasureLines(..) => "measure",
+            Call::Link(..) => "link",
             Call::Fault(..) => "fault",
             Call::Clear(_) => "clear",
             Call::Tick(_) => "tick",

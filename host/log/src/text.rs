@@ -1,12 +1,13 @@
 //! A log as text, one call a line, and back.
 //!
 //! ```text
-//! begin TIME RATED PAUSE yes|no
+//! begin TIME RATED PAUSE yes|no [digital|plain]      without a mark: plain
 //! sample TIME HIGH LOW       256 readings, first half at HIGH, second half at LOW
 //! window TIME r1 r2 ..       the readings one by one
 //! limit TIME MA
 //! measure TIME MA            one current: on line 1, and 0 on the others
 //! measure TIME L1 L2 L3      the current on each line
+//! link TIME MA               the current granted by link
 //! fault TIME KIND
 //! clear TIME
 //! tick TIME
@@ -23,18 +24,19 @@ use std::fmt;
 use std::str::{FromStr, SplitAsciiWhitespace};
 
 /// Each word that a line may start with, and its form.
-const FORMS: [(&str, &str); 8] = [
-    ("begin", "begin TIME RATED PAUSE yes|no"),
+const FORMS: [(&str, &str); 9] = [
+    ("begin", "begin TIME RATED PAUSE yes|no [digital|plain]"),
     ("sample", "sample TIME HIGH LOW"),
     ("window", "window TIME r1 r2 .."),
     ("limit", "limit TIME MA"),
     ("measure", "measure TIME MA or measure TIME L1 L2 L3"),
+    ("link", "link TIME MA"),
     ("fault", "fault TIME KIND"),
     ("clear", "clear TIME"),
     ("tick", "tick TIME"),
 ];
 
-const CALLS: &str = "begin, sample, window, limit, measure, fault, clear or tick";
+const CALLS: &str = "begin, sample, window, limit, measure, link, fault, clear or tick";
 const DIGITS: &str = "a whole number in digits alone, like 32000 or -12000";
 const TEXT: &str = "text in UTF-8";
 const ENDS: &str = "lines that end in LF or CR LF";
@@ -63,12 +65,18 @@ impl fmt::Display for Call {
         match self {
             Call::Begin(b) => {
                 let ventilation = if b.ventilation { "yes" } else { "no" };
-                write!(f, "{word} {} {} {} {ventilation}", b.time, b.rated, b.pause)
+                let mark = if b.digital { " digital" } else { "" };
+                write!(
+                    f,
+                    "{word} {} {} {} {ventilation}{mark}",
+                    b.time, b.rated, b.pause
+                )
             }
             Call::Sample(time, window) => write_window(f, *time, window),
-            Call::Limit(time, number) | Call::Measure(time, number) | Call::Fault(time, number) => {
-                write!(f, "{word} {time} {number}")
-            }
+            Call::Limit(time, number)
+            | Call::Measure(time, number)
+            | Call::Link(time, number)
+            | Call::Fault(time, number) => write!(f, "{word} {time} {number}"),
             Call::MeasureLines(time, [one, two, three]) => {
                 write!(f, "{word} {time} {one} {two} {three}")
             }
@@ -177,6 +185,7 @@ fn parse_call(line: usize, word: &str, words: SplitAsciiWhitespace) -> Result<Ca
             rated: values.number("RATED")?,
             pause: values.number("PAUSE")?,
             ventilation: values.yes_or_no()?,
+            digital: values.mark()?,
         }),
         "sample" => Call::Sample(
             time,
@@ -185,6 +194,7 @@ fn parse_call(line: usize, word: &str, words: SplitAsciiWhitespace) -> Result<Ca
         "window" => Call::Sample(time, values.readings()?.into()),
         "limit" => Call::Limit(time, values.number("MA")?),
         "measure" => values.measure(time)?,
+        "link" => Call::Link(time, values.number("MA")?),
         "fault" => Call::Fault(time, values.number("KIND")?),
         "clear" => Call::Clear(time),
         "tick" => Call::Tick(time),
@@ -241,6 +251,18 @@ impl<'a> Values<'a> {
             "no" => Ok(false),
             other => Err(self.wrong(
                 format!("{} is neither yes nor no", quoted(other)),
+                self.form,
+            )),
+        }
+    }
+
+    /// The mark, if there is one: a begin without it is plain.
+    fn mark(&mut self) -> Result<bool, Wrong> {
+        match self.words.next() {
+            None | Some("plain") => Ok(false),
+            Some("digital") => Ok(true),
+            Some(other) => Err(self.wrong(
+                format!("{} is neither digital nor plain", quoted(other)),
                 self.form,
             )),
         }

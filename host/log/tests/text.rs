@@ -6,6 +6,7 @@ use chuldariin_log::{Call, Entry, Line, Window};
 const TEXT: &str = "\
 begin 0 32000 0 no
 begin 18446744073709551615 4294967295 60001 yes
+begin 0 32000 0 no digital
 sample 10 9000 -12000
 sample 10 -2147483648 2147483647
 window 20
@@ -14,13 +15,14 @@ window 20 1 2 3
 limit 30 32000
 measure 40 200001
 measure 40 0 200001 4294967295
+link 45 80001
 fault 50 3
 clear 1000000000000
 tick 1000000000001
 ";
 
 /// Lines that are no calls, and what is said of each.
-const WRONG: [(&str, &str); 34] = [
+const WRONG: [(&str, &str); 36] = [
     ("tick", "TIME is missing; expected tick TIME"),
     ("tick # 1", "TIME is missing; expected tick TIME"),
     ("limit 1", "MA is missing; expected limit TIME MA"),
@@ -28,19 +30,21 @@ const WRONG: [(&str, &str); 34] = [
     ("measure 1 2 3", "L3 is missing; expected measure TIME MA or measure TIME L1 L2 L3"),
     ("measure 1 2 3 x", "L3 'x' is no number; expected a whole number in digits alone, like 32000 or -12000"),
     ("measure 1 2 3 4 5", "'5' is one value too many; expected measure TIME MA or measure TIME L1 L2 L3"),
+    ("link 1", "MA is missing; expected link TIME MA"),
     ("fault 1", "KIND is missing; expected fault TIME KIND"),
     ("sample 10 9000", "LOW is missing; expected sample TIME HIGH LOW"),
-    ("begin 0", "RATED is missing; expected begin TIME RATED PAUSE yes|no"),
-    ("begin 0 32000 0", "yes|no (has the post ventilation?) is missing; expected begin TIME RATED PAUSE yes|no"),
-    ("begin 0 32000 0 maybe", "'maybe' is neither yes nor no; expected begin TIME RATED PAUSE yes|no"),
-    ("begin 0 32000 0 no 5", "'5' is one value too many; expected begin TIME RATED PAUSE yes|no"),
+    ("begin 0", "RATED is missing; expected begin TIME RATED PAUSE yes|no [digital|plain]"),
+    ("begin 0 32000 0", "yes|no (has the post ventilation?) is missing; expected begin TIME RATED PAUSE yes|no [digital|plain]"),
+    ("begin 0 32000 0 maybe", "'maybe' is neither yes nor no; expected begin TIME RATED PAUSE yes|no [digital|plain]"),
+    ("begin 0 32000 0 no 5", "'5' is neither digital nor plain; expected begin TIME RATED PAUSE yes|no [digital|plain]"),
+    ("begin 0 32000 0 no digital 5", "'5' is one value too many; expected begin TIME RATED PAUSE yes|no [digital|plain]"),
     ("tick 1 2", "'2' is one value too many; expected tick TIME"),
     ("tick 1\rtick 2",
         "a CR that no LF follows; expected lines that end in LF or CR LF",
     ),
-    ("Tick 1", "'Tick' is no call; expected begin, sample, window, limit, measure, fault, clear or tick"),
-    ("step 1", "'step' is no call; expected begin, sample, window, limit, measure, fault, clear or tick"),
-    ("10 tick", "'10' is no call; expected begin, sample, window, limit, measure, fault, clear or tick"),
+    ("Tick 1", "'Tick' is no call; expected begin, sample, window, limit, measure, link, fault, clear or tick"),
+    ("step 1", "'step' is no call; expected begin, sample, window, limit, measure, link, fault, clear or tick"),
+    ("10 tick", "'10' is no call; expected begin, sample, window, limit, measure, link, fault, clear or tick"),
     ("tick -1", "TIME '-1' is too small: the least is 0; expected tick TIME"),
     ("tick +1", "TIME '+1' is no number; expected a whole number in digits alone, like 32000 or -12000"),
     ("tick 1_000", "TIME '1_000' is no number; expected a whole number in digits alone, like 32000 or -12000"),
@@ -62,12 +66,13 @@ const WRONG: [(&str, &str); 34] = [
 #[test]
 fn text_comes_back_as_it_was() {
     let list = calls(TEXT).expect("a list of calls");
-    assert_eq!(list.len(), 13);
+    assert_eq!(list.len(), 15);
     assert_eq!(print(&list), TEXT);
-    assert_eq!(list[2], Call::Sample(10, Window::Halves(9_000, -12_000)));
-    assert_eq!(list[4], Call::Sample(20, Window::Readings(Vec::new())));
-    assert_eq!(list[8], Call::Measure(40, 200_001));
-    assert_eq!(list[9], Call::MeasureLines(40, [0, 200_001, u32::MAX]));
+    assert_eq!(list[3], Call::Sample(10, Window::Halves(9_000, -12_000)));
+    assert_eq!(list[5], Call::Sample(20, Window::Readings(Vec::new())));
+    assert_eq!(list[9], Call::Measure(40, 200_001));
+    assert_eq!(list[10], Call::MeasureLines(40, [0, 200_001, u32::MAX]));
+    assert_eq!(list[11], Call::Link(45, 80_001));
 }
 
 #[test]

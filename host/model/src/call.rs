@@ -1,4 +1,4 @@
-//! Begin, the six other calls, and the reply.
+//! Begin, the seven other calls, and the reply.
 
 use crate::state::{Event, State};
 use crate::steps::{run, Conditions};
@@ -15,6 +15,8 @@ pub struct Begin {
     pub rated: u32,
     pub pause: u64,
     pub ventilation: bool,
+    /// Digital, or plain.
+    pub digital: bool,
 }
 
 /// What the host is told.
@@ -85,6 +87,8 @@ pub struct Outcome {
     pub latched: [bool; 5],
     /// Has step 3 restarted a running over-run (document 02, request c)?
     pub restarted: bool,
+    /// Has the rule about settled A set a grant above 0 to 0 (document 02, request e)?
+    pub grant_reset: bool,
     /// Step 5's conditions; all false in a refused call.
     pub conditions: Conditions,
 }
@@ -99,6 +103,7 @@ impl Outcome {
             closing: false,
             latched: [false; 5],
             restarted: false,
+            grant_reset: false,
             conditions: Conditions::default(),
         }
     }
@@ -114,7 +119,9 @@ pub fn begin(b: &Begin) -> Result<(State, Reply), u8> {
         rated: b.rated,
         pause: if b.pause == 0 { USUAL_PAUSE } else { b.pause },
         ventilation: b.ventilation,
+        digital: b.digital,
         limit: 0,
+        grant: 0,
         lines: [0; 3],
         wave: 1_000,
         closed: false,
@@ -156,6 +163,7 @@ impl State {
                     closing: run.closing,
                     latched: run.latched,
                     restarted: run.restarted,
+                    grant_reset: run.grant_reset,
                     conditions: run.conditions,
                 };
                 (run.state, outcome)

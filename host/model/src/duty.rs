@@ -9,16 +9,25 @@ pub enum Reading {
     Current(u32),
 }
 
-/// Least and greatest duty of a driven square wave.
+/// Least and greatest duty of a plain post's driven square wave.
 const LEAST: u32 = 100;
 const GREATEST: u32 = 960;
 
-/// No duty is given for a current below this one, in mA.
+/// Duty of a digital post's driven square wave (document 02, request e).
+pub(crate) const DIGITAL_DUTY: u32 = 50;
+
+/// No duty is given for a current below this one, and no closing comes under a
+/// grant below it, in mA.
 pub const LEAST_CURRENT: u32 = 6_000;
 
-/// Is this wave command a driven square wave?
-pub fn driven(wave: u32) -> bool {
+/// Is this a duty of a plain post's driven square wave?
+pub(crate) fn plain_duty(wave: u32) -> bool {
     (LEAST..=GREATEST).contains(&wave)
+}
+
+/// Is this wave command a driven square wave, in a digital post or in a plain one?
+pub fn driven(digital: bool, wave: u32) -> bool {
+    plain_duty(wave) || (digital && wave == DIGITAL_DUTY)
 }
 
 /// Reading of a duty, or refusal 9.

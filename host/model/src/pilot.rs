@@ -1,7 +1,5 @@
 //! Bands of the high level, and the verdict on a sample.
 
-use crate::duty::driven;
-
 /// Band of a high level. `None` in an `Option<Band>` is no band.
 #[derive(Clone, Copy, Debug, PartialEq, Eq)]
 pub enum Band {
@@ -47,10 +45,9 @@ fn ready(band: Option<Band>, ventilation: bool) -> bool {
     }
 }
 
-/// Verdict on a sample of these two levels.
-pub fn verdict(high: i32, low: i32, wave: u32, ventilation: bool) -> Verdict {
+/// Verdict on a sample of these two levels, with the wave driven or not.
+pub fn verdict(high: i32, low: i32, driven: bool, ventilation: bool) -> Verdict {
     let band = band(high);
-    let driven = driven(wave);
     let low_good = in_low_band(low);
     let van_there = matches!(band, Some(Band::B | Band::C | Band::D));
     Verdict {

@@ -1,5 +1,6 @@
 //! What a controller keeps between calls, and what a call can bring.
 
+use crate::duty::{driven, reading, Reading};
 use crate::pilot::{Band, Verdict};
 
 /// The state a controller keeps.
@@ -10,8 +11,12 @@ pub struct State {
     /// Least time from an opening to the next closing, ms.
     pub pause: u64,
     pub ventilation: bool,
+    /// Begin's mark: digital, or plain.
+    pub digital: bool,
     /// Depot limit, mA.
     pub limit: u32,
+    /// Current granted over the link, mA.
+    pub grant: u32,
     /// Line currents of the last accepted measure, line 1 first, mA.
     pub lines: [u32; 3],
     /// Wave command, a duty.
@@ -51,6 +56,8 @@ pub enum Event<'a> {
     Fault(u32),
     Clear,
     Tick,
+    /// The granted current, mA.
+    Link(u32),
 }
 
 impl Event<'static> {
@@ -64,6 +71,26 @@ impl State {
     /// Is any fault latched?
     pub fn any_fault(&self) -> bool {
         self.faults.contains(&true)
+    }
+
+    /// Is the commanded wave driven?
+    pub(crate) fn wave_driven(&self) -> bool {
+        driven(self.digital, self.wave)
+    }
+
+    /// Current that a measure on this state is judged against, mA: it may carry a
+    /// tenth more. `None` if a measure is not judged at all.
+    pub fn allowed(&self) -> Option<u32> {
+        if !self.closed || !self.wave_driven() {
+            return None;
+        }
+        if self.digital {
+            return Some(self.grant.min(self.rated).min(self.limit));
+        }
+        match reading(self.wave) {
+            Ok(Reading::Current(announced)) => Some(announced),
+            _ => None, // not reached: a plain post's driven duty reads a current
+        }
     }
 
     /// Letter of the reply, ASCII.
@@ -85,7 +112,7 @@ impl State {
     pub fn digit(&self) -> u8 {
         match self.letter() {
             b'U' | b'E' | b'F' => 0,
-            _ if crate::duty::driven(self.wave) => 2,
+            _ if self.wave_driven() => 2,
             _ => 1,
         }
     }

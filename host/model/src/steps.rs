@@ -3,7 +3,7 @@
 //! The table has let the call pass, so the call's time is at or above every
 //! stored time, and every figure reckoned with is in range: nothing overflows.
 
-use crate::duty::{driven, duty_for, reading, Reading};
+use crate::duty::{driven, duty_for, DIGITAL_DUTY, LEAST_CURRENT};
 use crate::pilot::{same_band, verdict, Band, Verdict};
 use crate::state::{Event, State};
 
@@ -28,6 +28,8 @@ pub struct Conditions {
     pub previous_proven: bool,
     pub same_band: bool,
     pub pause_over: bool,
+    /// In a plain post nothing is asked of the grant, and this is true.
+    pub granted: bool,
 }
 
 impl Conditions {
@@ -41,6 +43,7 @@ impl Conditions {
             && self.previous_proven
             && self.same_band
             && self.pause_over
+            && self.granted
     }
 }
 
@@ -58,6 +61,8 @@ pub(crate) struct Run {
     /// Has this call forgotten the previous sample?
     forgot: bool,
     pub latched: [bool; 5],
+    /// Has settled A set a grant above 0 to 0?
+    pub grant_reset: bool,
     /// Has this call restarted a running over-run?
     pub restarted: bool,
     pub causes: [bool; 5],
@@ -72,10 +77,12 @@ pub(crate) fn run(state: &State, time: u64, event: &Event, levels: Option<(i32, 
         state: *state,
         time,
         open_before: !state.closed,
-        sample: levels.map(|(high, low)| verdict(high, low, state.wave, state.ventilation)),
+        sample: levels
+            .map(|(high, low)| verdict(high, low, state.wave_driven(), state.ventilation)),
         partner: state.previous,
         forgot: false,
         latched: [false; 5],
+        grant_reset: false,
         restarted: false,
         causes: [false; 5],
         opened: false,
@@ -83,6 +90,7 @@ pub(crate) fn run(state: &State, time: u64, event: &Event, levels: Option<(i32, 
         closing: false,
     };
     run.step_1_event(event);
+    run.reset_grant();
     run.step_2_latches();
     run.step_3_wave();
     run.step_4_opening();
@@ -101,6 +109,7 @@ impl Run {
             Event::Fault(kind) => self.latch(kind as usize),
             Event::Clear => self.state.faults = [false; 5],
             Event::Tick => {}
+            Event::Link(granted) => self.state.grant = granted,
         }
     }
 
@@ -119,16 +128,21 @@ impl Run {
     /// A measure: its lines are kept, and over-run starts, runs on or ends.
     fn measure(&mut self, lines: [u32; 3]) {
         self.state.lines = lines;
-        if !self.state.closed || !driven(self.state.wave) {
-            return;
-        }
         let largest = lines[0].max(lines[1]).max(lines[2]);
-        if let Ok(Reading::Current(announced)) = reading(self.state.wave) {
-            if 10 * largest > 11 * announced {
+        if let Some(allowed) = self.state.allowed() {
+            if 10 * largest > 11 * allowed {
                 self.state.overrun = self.state.overrun.or(Some(self.time));
             } else {
                 self.state.overrun = None;
             }
+        }
+    }
+
+    /// A settled after step 1: the grant is set to 0 (document 02, request e).
+    fn reset_grant(&mut self) {
+        if self.state.settled == Some(Band::A) {
+            self.grant_reset = self.state.grant > 0;
+            self.state.grant = 0;
         }
     }
 
@@ -161,16 +175,16 @@ impl Run {
     fn step_3_wave(&mut self) {
         let before = self.state.wave;
         self.state.wave = command(&self.state);
-        if !driven(self.state.wave) {
+        if !self.state.wave_driven() {
             self.state.overrun = None;
         }
-        if lowered(before, self.state.wave) {
+        if lowered(self.state.digital, before, self.state.wave) {
             self.restart();
         }
         if self.state.closed && self.state.wave == STEADY_HIGH {
             self.state.stop = self.state.stop.or(Some(self.time));
         }
-        if driven(self.state.wave) {
+        if self.state.wave_driven() {
             self.state.stop = None;
         }
     }
@@ -212,12 +226,13 @@ impl Run {
             open_before: self.open_before,
             not_opened: !self.opened,
             sample: self.sample.is_some(),
-            wave_driven: driven(self.state.wave),
+            wave_driven: self.state.wave_driven(),
             this_proven: self.sample.is_some_and(|sample| sample.proven),
             previous_proven: previous.is_some_and(|sample| sample.proven),
             same_band: same_band(self.sample, previous),
             pause_over: self.state.opening.is_none()
                 || self.age_at_least(self.state.opening, self.state.pause),
+            granted: !self.state.digital || granted(&self.state),
         };
         if self.conditions.all() {
             self.closing = true;
@@ -259,9 +274,15 @@ fn both(this: Option<Verdict>, previous: Option<Verdict>, is: fn(&Verdict) -> bo
     }
 }
 
-/// Is a driven duty lowered to another driven one?
-fn lowered(before: u32, after: u32) -> bool {
-    driven(before) && driven(after) && after < before
+/// Is a driven duty lowered to another driven one? Never in a digital post: it
+/// commands one driven duty, and refusal 1 bars the others.
+fn lowered(digital: bool, before: u32, after: u32) -> bool {
+    driven(digital, before) && driven(digital, after) && after < before
+}
+
+/// Is the grant enough to close on, and to stay closed on without a stop?
+fn granted(state: &State) -> bool {
+    state.grant >= LEAST_CURRENT
 }
 
 /// Wave command of step 3.
@@ -278,7 +299,17 @@ fn command(state: &State) -> u32 {
         return STEADY_HIGH;
     }
     match duty_for(state.rated.min(state.limit)) {
+        Ok(_) if state.digital => digital_command(state),
         Ok(duty) => duty,
         Err(_) => STEADY_HIGH, // below 6,000 mA
+    }
+}
+
+/// A digital post's wave where plain rules give a duty.
+fn digital_command(state: &State) -> u32 {
+    if state.closed && !granted(state) {
+        STEADY_HIGH
+    } else {
+        DIGITAL_DUTY
     }
 }

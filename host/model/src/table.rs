@@ -1,13 +1,14 @@
 //! The table of refusals. Numbers 9 and 10 are in `duty`.
 
-use crate::duty::driven;
+use crate::duty::{plain_duty, DIGITAL_DUTY};
 use crate::state::{Event, State};
 use crate::window::{levels, Evaluated};
 
 /// The largest time, ms.
 const LARGEST_TIME: u64 = 1_000_000_000_000;
-/// The largest limit, and the largest measured current of a line, mA.
+/// The largest limit, the largest grant and the largest measured current of a line, mA.
 const LARGEST_LIMIT: u32 = 80_000;
+const LARGEST_GRANT: u32 = 80_000;
 const LARGEST_MEASURE: u32 = 200_000;
 /// No list of calls leads above so many closings.
 const MOST_CLOSINGS: u32 = 1_000_000_001;
@@ -31,7 +32,7 @@ pub fn refusal_of_call(state: &State, time: u64, event: &Event) -> u8 {
     }
 }
 
-/// Goes through the table in its order: 3, 2, 1, then 4 to 8.
+/// Goes through the table in its order: 3, 2, 1, then 4 to 8, or 12 and 11 of a link call.
 /// An accepted sample gets its high and low level.
 pub(crate) fn check(
     state: &State,
@@ -53,14 +54,17 @@ pub(crate) fn check(
         Event::Limit(limit) if limit > LARGEST_LIMIT => Err(7),
         Event::Measure(lines) if lines.iter().any(|&line| line > LARGEST_MEASURE) => Err(7),
         Event::Fault(kind) if !(3..=5).contains(&kind) => Err(8),
+        Event::Link(_) if !state.digital => Err(12),
+        Event::Link(granted) if granted > LARGEST_GRANT => Err(11),
         _ => Ok(None),
     }
 }
 
 /// Has a host altered the controller in a way that refusal 1 names?
 fn out_of_range(state: &State) -> bool {
-    !wave_in_range(state.wave)
+    !wave_in_range(state.digital, state.wave)
         || state.limit > LARGEST_LIMIT
+        || state.grant > LARGEST_GRANT
         || !rated_in_range(state.rated)
         || !pause_in_range(state.pause)
         || later(state.sound, state.last)
@@ -70,8 +74,14 @@ fn out_of_range(state: &State) -> bool {
         || state.closings > MOST_CLOSINGS
 }
 
-fn wave_in_range(wave: u32) -> bool {
-    wave == 0 || driven(wave) || wave == 1_000
+/// 0, 1000, and what such a post drives.
+fn wave_in_range(digital: bool, wave: u32) -> bool {
+    let drives = if digital {
+        wave == DIGITAL_DUTY
+    } else {
+        plain_duty(wave)
+    };
+    wave == 0 || drives || wave == 1_000
 }
 
 fn rated_in_range(rated: u32) -> bool {

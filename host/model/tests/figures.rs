@@ -78,10 +78,22 @@ fn bands_and_their_ends() {
 #[test]
 fn sound_proven_and_diode_bad() {
     for (high, sound) in [(7_499, true), (1_501, true), (7_500, false), (1_500, false)] {
-        assert_eq!(verdict(high, -12_000, 533, false).sound, sound, "{high}");
-        assert_eq!(verdict(high, high, 1_000, false).sound, sound, "{high}");
-        assert_eq!(verdict(high, high, 0, false).sound, sound, "{high}");
-        assert!(!verdict(high, -10_999, 533, false).sound);
+        assert_eq!(
+            verdict(high, -12_000, driven(false, 533), false).sound,
+            sound,
+            "{high}"
+        );
+        assert_eq!(
+            verdict(high, high, driven(false, 1_000), false).sound,
+            sound,
+            "{high}"
+        );
+        assert_eq!(
+            verdict(high, high, driven(false, 0), false).sound,
+            sound,
+            "{high}"
+        );
+        assert!(!verdict(high, -10_999, driven(false, 533), false).sound);
     }
     for (low, good) in [
         (-13_001, false),
@@ -89,15 +101,15 @@ fn sound_proven_and_diode_bad() {
         (-11_000, true),
         (-10_999, false),
     ] {
-        let there = verdict(6_000, low, 533, false);
+        let there = verdict(6_000, low, driven(false, 533), false);
         assert_eq!(
             (there.sound, there.proven, there.diode_bad),
             (good, good, !good)
         );
     }
-    assert!(!verdict(3_000, -12_000, 533, false).proven);
-    assert!(verdict(3_000, -12_000, 533, true).proven);
-    assert!(!verdict(6_000, -12_000, 1_000, true).proven);
+    assert!(!verdict(3_000, -12_000, driven(false, 533), false).proven);
+    assert!(verdict(3_000, -12_000, driven(false, 533), true).proven);
+    assert!(!verdict(6_000, -12_000, driven(false, 1_000), true).proven);
     for (high, bad) in [
         (12_000, false),
         (9_000, true),
@@ -106,11 +118,11 @@ fn sound_proven_and_diode_bad() {
         (7_200, false),
     ] {
         assert_eq!(
-            verdict(high, high.min(0), 100, false).diode_bad,
+            verdict(high, high.min(0), driven(false, 100), false).diode_bad,
             bad,
             "{high}"
         );
-        assert!(!verdict(high, high, 1_000, false).diode_bad);
+        assert!(!verdict(high, high, driven(false, 1_000), false).diode_bad);
     }
 }
 
@@ -279,6 +291,7 @@ fn asked(time: u64, rated: u32, pause: u64) -> Result<(State, Reply), u8> {
         rated,
         pause,
         ventilation: true,
+        digital: false,
     })
 }
 

@@ -181,6 +181,7 @@ fn lines_are_0_at_the_start() {
         rated: 32_000,
         pause: 0,
         ventilation: false,
+        digital: false,
     };
     let (state, reply) = begin(&first).unwrap();
     assert_eq!((state.lines, reply.lines), ([0; 3], [0; 3]));

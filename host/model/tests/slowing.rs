@@ -45,7 +45,7 @@ fn too_high(start: u64) -> State {
 fn restarts(state: &State, time: u64, event: Event) -> State {
     let (next, outcome) = state.call(time, &event);
     assert_eq!(outcome.reply.refusal, 0, "{event:?}");
-    assert!(driven(state.wave) && driven(next.wave) && next.wave < state.wave);
+    assert!(driven(false, state.wave) && driven(false, next.wave) && next.wave < state.wave);
     assert!(outcome.restarted && !outcome.latched[1], "{event:?}");
     assert_eq!(next.overrun, Some(time), "{event:?}");
     next
@@ -318,7 +318,7 @@ fn steady_high_ends_it() {
 fn steady_low_ends_it() {
     let bad = window(6_000, 0);
     let with_partner = State {
-        previous: Some(verdict(6_000, 0, 533, false)),
+        previous: Some(verdict(6_000, 0, driven(false, 533), false)),
         ..too_high(8_000)
     };
     let mut calls = vec![(with_partner, Event::Sample(&bad))];
@@ -346,7 +346,7 @@ fn steady_wave_to_a_driven_one_leaves_it() {
                 ..over_running(8_000)
             };
             let next = no_restart(&state, 10_010, Event::Limit(limit));
-            assert!(driven(next.wave));
+            assert!(driven(false, next.wave));
             assert_eq!(next.overrun, Some(8_000), "{wave}, {limit}");
         }
     }
@@ -382,7 +382,7 @@ fn settled_state_says_whether_the_wave_is_driven() {
             ..over_running(8_000)
         };
         let (next, outcome) = state.call(10_010, &LOWER);
-        assert_eq!(driven(next.wave), is_driven, "{settled:?}");
+        assert_eq!(driven(false, next.wave), is_driven, "{settled:?}");
         assert_eq!(outcome.restarted, is_driven, "{settled:?}");
         assert_eq!(next.overrun, is_driven.then_some(10_010), "{settled:?}");
     }
@@ -438,7 +438,7 @@ fn sample_settles_before_the_wave() {
     let next = no_restart(&unsettled, 10_010, Event::Sample(&window(9_000, -12_000)));
     assert_eq!((next.wave, next.overrun), (1_000, None));
     let leaving = State {
-        previous: Some(verdict(12_000, -12_000, 533, false)),
+        previous: Some(verdict(12_000, -12_000, driven(false, 533), false)),
         ..too_high(8_000)
     };
     let next = no_restart(&leaving, 10_010, Event::Sample(&window(12_000, -12_000)));
@@ -541,7 +541,7 @@ fn call_that_opens_restarts_it_and_then_ends_it() {
     assert!(restarts(&over_running(8_000), 10_080, LOWER).closed);
     let unsound = window(9_000, -12_000);
     let with_partner = State {
-        previous: Some(verdict(9_000, -12_000, 533, false)),
+        previous: Some(verdict(9_000, -12_000, driven(false, 533), false)),
         ..too_high(8_000)
     };
     for (state, time, event) in [
@@ -668,10 +668,10 @@ impl Told {
         let (state, outcome) = self.state.call_evaluated(van, time, &event);
         let old = self.overrun.is_some_and(|start| time - start >= 5_000);
         assert_eq!(outcome.latched[1], old, "{event:?} at {time}");
-        let lowered = driven(before) && driven(state.wave) && state.wave < before;
+        let lowered = driven(false, before) && driven(false, state.wave) && state.wave < before;
         assert_eq!(outcome.restarted, lowered && self.overrun.is_some());
         assert!(!outcome.restarted || matches!(event, Event::Limit(_)));
-        if outcome.opened || !driven(state.wave) {
+        if outcome.opened || !driven(false, state.wave) {
             self.overrun = None;
         } else if lowered {
             self.overrun = self.overrun.and(Some(time));
@@ -684,7 +684,7 @@ impl Told {
     /// Step 1 of a measure.
     fn measure(&mut self, time: u64, event: Event) {
         if let (Event::Measure([a, b, c]), true) = (event, self.state.closed) {
-            if driven(self.state.wave) {
+            if driven(false, self.state.wave) {
                 let over = 10 * a.max(b).max(c) > 11 * announced(self.state.wave);
                 self.overrun = over.then_some(self.overrun.unwrap_or(time));
             }

@@ -1,13 +1,13 @@
 //! Makes up calls by what the controller is doing.
 
 use crate::dice::Dice;
-use crate::edges::{ends, BAD_LOWS, GOOD_LIMITS, GOOD_LOWS, GOOD_PAUSES, GOOD_RATED, LARGEST};
+use crate::edges::{ends, BAD_LOWS, GOOD_CURRENTS, GOOD_LOWS, GOOD_PAUSES, GOOD_RATED, LARGEST};
 use crate::tally::Tally;
 use crate::trial::{Played, Trial};
 use chuldariin::raw;
 use chuldariin::raw::Controller;
 use chuldariin_log::{Call, Window};
-use chuldariin_model::{driven, Band, Begin, State};
+use chuldariin_model::{driven, Band, Begin, State, LEAST_CURRENT};
 
 /// A part of a list.
 pub type Scene = fn(&mut Author) -> Played;
@@ -87,8 +87,14 @@ impl Author {
         }
     }
 
-    /// A begin that is accepted if its time is.
+    /// A begin that is accepted if its time is, of a digital post or of a plain one.
     pub fn good_begin(&mut self, time: u64) -> Call {
+        let digital = self.dice.one_in(2);
+        self.begin_marked(time, digital)
+    }
+
+    /// The same with this mark.
+    pub fn begin_marked(&mut self, time: u64, digital: bool) -> Call {
         let any_rated = self.dice.between(6_000, 80_000) as u32;
         let any_pause = self.dice.between(1_000, 60_000);
         Call::Begin(Begin {
@@ -96,6 +102,7 @@ impl Author {
             rated: self.dice.often(&GOOD_RATED, any_rated),
             pause: self.dice.often(&GOOD_PAUSES, any_pause),
             ventilation: self.dice.one_in(2),
+            digital,
         })
     }
 
@@ -126,9 +133,9 @@ impl Author {
 
     /// A sample as a van in this band makes it under the present wave.
     pub fn van_at(&mut self, time: u64, band: Band) -> Played {
-        let high = self.level(band);
-        let low = match self.state().wave {
-            wave if driven(wave) => self.dice.pick(&GOOD_LOWS),
+        let (state, high) = (self.state(), self.level(band));
+        let low = match state.wave {
+            wave if driven(state.digital, wave) => self.dice.pick(&GOOD_LOWS),
             0 => -12_000,
             _ => high,
         };
@@ -154,10 +161,31 @@ impl Author {
 
     /// A limit that lets a wave be driven.
     pub fn good_limit(&mut self) -> Played {
-        let time = self.soon();
-        let any_limit = self.dice.between(6_000, 80_000) as u32;
-        let limit = self.dice.often(&GOOD_LIMITS, any_limit);
+        let (time, limit) = (self.soon(), self.good_current());
         self.say(Call::Limit(time, limit))
+    }
+
+    /// One of these grants.
+    pub fn grant(&mut self, time: u64, of: &[u32]) -> Played {
+        let granted = self.dice.pick(of);
+        self.say(Call::Link(time, granted))
+    }
+
+    /// A grant that is enough, if the post wants one and A, under which it is lost, is not settled.
+    pub fn agree(&mut self) -> Played {
+        let state = self.state();
+        let wants = state.digital && state.grant < LEAST_CURRENT;
+        if !wants || state.settled == Some(Band::A) {
+            return Ok(());
+        }
+        let (time, granted) = (self.within(3), self.good_current());
+        self.say(Call::Link(time, granted))
+    }
+
+    /// A limit, or a grant, that is enough.
+    fn good_current(&mut self) -> u32 {
+        let any = self.dice.between(6_000, 80_000) as u32;
+        self.dice.often(&GOOD_CURRENTS, any)
     }
 
     /// A measure with this as its largest current: the only one, or on any line.

@@ -1,7 +1,7 @@
 //! Scenes of irregular windows, faults, refused calls and clocks.
 
 use crate::author::Author;
-use crate::edges::LARGEST;
+use crate::edges::{GOOD_CURRENTS, LARGEST};
 use crate::scenes::close;
 use crate::trial::Played;
 use crate::windows::irregular;
@@ -28,7 +28,7 @@ pub fn irregular_among_good(author: &mut Author) -> Played {
     Ok(())
 }
 
-/// Faults, again and together, samples under them, and clear.
+/// Faults, again and together, samples and grants under them, and clear.
 pub fn faults(author: &mut Author) -> Played {
     if author.dice.one_in(2) {
         close(author)?;
@@ -36,10 +36,11 @@ pub fn faults(author: &mut Author) -> Played {
     for _ in 0..author.dice.between(2, 10) {
         let time = author.soon();
         let band = author.dice.pick(&[Band::A, Band::B, Band::C]);
-        match author.dice.between(0, 6) {
+        match author.dice.between(0, 7) {
             0..=1 => author.fault(time)?,
             2 => author.say(Call::Clear(time))?,
             3 => author.no_diode_at(time, band)?,
+            4 => author.grant(time, &GOOD_CURRENTS)?,
             _ => {
                 let high = author.level(band);
                 author.sample(time, high, high)?

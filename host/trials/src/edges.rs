@@ -30,13 +30,16 @@ pub const CURRENTS: [u32; 20] = [
     52_000, 52_749, 52_750, 79_999, 80_000, 80_001, 200_000,
 ];
 
-/// Limits with which a wave can be driven, mA.
-pub const GOOD_LIMITS: [u32; 9] = [
+/// Limits with which a wave can be driven, and grants with which a digital post closes, mA.
+pub const GOOD_CURRENTS: [u32; 9] = [
     6_000, 6_060, 16_000, 32_000, 51_000, 52_000, 52_749, 52_750, 80_000,
 ];
 
-/// Limits with which it can't, mA.
-pub const LOW_LIMITS: [u32; 4] = [0, 1, 3_000, 5_999];
+/// Limits and grants with which it can't, mA.
+pub const LOW_CURRENTS: [u32; 4] = [0, 1, 3_000, 5_999];
+
+/// Limits and grants out of range, mA.
+pub const BAD_CURRENTS: [u32; 3] = [80_001, 200_000, u32::MAX];
 
 /// Rated currents and pauses that begin takes.
 pub const GOOD_RATED: [u32; 7] = [6_000, 6_001, 16_000, 32_000, 51_500, 63_000, 80_000];

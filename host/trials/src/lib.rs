@@ -20,11 +20,14 @@
 //! | `trial` | a list of calls as it grows, and the report of a difference |
 //! | `shrink` | a shorter list that differs too |
 //! | `tally` | how often everything that should occur did |
+//! | `tally_duty` | the same of a changed duty and an over-run |
+//! | `tally_link` | the same of a grant, or the want of one |
 //! | `edges` | levels, numbers and times at the ends of their ranges |
 //! | `windows` | windows of readings, clean and irregular |
 //! | `author` | makes up calls by what the controller is doing |
 //! | `noise` | calls to be refused, and calls of any kind |
 //! | `scenes` | what happens at a charging post |
+//! | `linked` | what happens at a digital post |
 //! | `disturbances` | scenes of irregular windows, faults, refused calls and clocks |
 //! | `styles` | the lists that the scenes make, each with its seed |
 //! | `wild` | controllers that a host has altered |
@@ -35,12 +38,15 @@ pub mod author;
 pub mod dice;
 pub mod disturbances;
 pub mod edges;
+pub mod linked;
 pub mod noise;
 pub mod pair;
 pub mod scenes;
 pub mod shrink;
 pub mod styles;
 pub mod tally;
+pub mod tally_duty;
+pub mod tally_link;
 pub mod trial;
 pub mod wild;
 pub mod windows;

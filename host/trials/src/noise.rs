@@ -2,7 +2,8 @@
 
 use crate::author::Author;
 use crate::edges::{
-    far_times, times, BAD_LOWS, BAD_PAUSES, BAD_RATED, CURRENTS, GOOD_LOWS, HIGHS, LARGEST, LOWS,
+    far_times, times, BAD_CURRENTS, BAD_LOWS, BAD_PAUSES, BAD_RATED, CURRENTS, GOOD_LOWS, HIGHS,
+    LARGEST, LOWS,
 };
 use crate::trial::Played;
 use crate::windows::{irregular, scattered};
@@ -13,14 +14,15 @@ impl Author {
     /// A call that every controller refuses.
     pub fn refused(&mut self) -> Call {
         let time = self.edge_time();
-        match self.dice.between(0, 9) {
+        match self.dice.between(0, 10) {
             0 => self.bad_begin(),
             1 => self.any_call(LARGEST + 1),
             2 => self.any_call(u64::MAX),
             3 => self.any_call(self.state().last.wrapping_sub(1)),
-            4 => Call::Limit(time, self.dice.pick(&[80_001, 200_000, u32::MAX])),
+            4 => Call::Limit(time, self.dice.pick(&BAD_CURRENTS)),
             5 => self.bad_measure(time),
             6 => Call::Fault(time, self.dice.pick(&[0, 1, 2, 6, 7, 255, 259, u32::MAX])),
+            7 => Call::Link(time, self.dice.pick(&BAD_CURRENTS)),
             _ => Call::Sample(time, self.bad_window().into()),
         }
     }
@@ -67,6 +69,7 @@ impl Author {
             rated: 32_000,
             pause: 0,
             ventilation: self.dice.one_in(2),
+            digital: self.dice.one_in(2),
         };
         match self.dice.between(0, 4) {
             0 => begin.rated = self.dice.pick(&BAD_RATED),
@@ -99,13 +102,14 @@ impl Author {
 
     /// A call of any kind but begin, with arguments at the ends of their ranges.
     pub fn any_call(&mut self, time: u64) -> Call {
-        match self.dice.between(0, 15) {
+        match self.dice.between(0, 17) {
             0..=6 => Call::Sample(time, self.any_window()),
             7..=8 => Call::Limit(time, self.dice.pick(&CURRENTS)),
             9 => Call::Measure(time, self.any_current()),
             10 => Call::MeasureLines(time, [0; 3].map(|_| self.any_current())),
             11 => Call::Fault(time, self.dice.pick(&[2, 3, 4, 5, 3, 4, 5, 6])),
             12..=13 => Call::Clear(time),
+            14..=15 => Call::Link(time, self.dice.pick(&CURRENTS)),
             _ => Call::Tick(time),
         }
     }

@@ -1,10 +1,10 @@
 //! What happens at a charging post.
 
-use crate::author::Author;
-use crate::edges::{CURRENTS, GOOD_LIMITS, GOOD_LOWS, LOW_LIMITS};
+use crate::author::{Author, Scene};
+use crate::edges::{CURRENTS, GOOD_CURRENTS, GOOD_LOWS, LOW_CURRENTS};
 use crate::trial::Played;
 use chuldariin_log::Call;
-use chuldariin_model::{reading, Band, Reading};
+use chuldariin_model::{Band, LEAST_CURRENT};
 
 /// Begin, and the van comes: A or nothing, then B.
 pub fn arrive(author: &mut Author) -> Played {
@@ -23,18 +23,25 @@ pub fn arrive(author: &mut Author) -> Played {
 
 /// All that a closing needs, with the end of the pause met to the millisecond.
 pub fn close(author: &mut Author) -> Played {
+    ready(author, Author::agree)
+}
+
+/// All that a plain post needs to close. A link call, or none, goes before it and follows its first samples.
+pub fn ready(author: &mut Author, link: Scene) -> Played {
     if author.state().any_fault() {
         let time = author.soon();
         author.say(Call::Clear(time))?;
     }
     let state = author.state();
-    if state.rated.min(state.limit) < 6_000 {
+    if state.rated.min(state.limit) < LEAST_CURRENT {
         author.good_limit()?;
     }
+    link(author)?;
     let band = author.ready_band();
     for _ in 0..4 {
         if !author.state().closed {
             author.van(band)?;
+            link(author)?;
         }
     }
     match author.state().opening {
@@ -58,7 +65,7 @@ fn around_pause(author: &mut Author, end: u64, band: Band) -> Played {
     author.van(band)
 }
 
-/// Charging: samples every 10 to 20 ms, with limits and measures between.
+/// Charging: samples every 10 to 20 ms, with limits, grants and measures between.
 pub fn charge(author: &mut Author) -> Played {
     close(author)?;
     let band = author.ready_band();
@@ -70,6 +77,7 @@ pub fn charge(author: &mut Author) -> Played {
             1 => author.measure(time, 32_000)?,
             2 => author.say(Call::Tick(time + 1))?,
             3 => author.say(Call::Clear(time))?,
+            4 => author.grant(time, &GOOD_CURRENTS)?,
             _ => {}
         }
     }
@@ -110,9 +118,10 @@ fn between(author: &mut Author) -> Played {
     let time = author.within(3);
     match author.dice.between(0, 9) {
         0 => author.say(Call::Tick(time)),
-        1 => author.limit(time, &GOOD_LIMITS),
+        1 => author.limit(time, &GOOD_CURRENTS),
         2 => author.measure(time, 0),
         3 => author.say(Call::Clear(time)),
+        4 => author.grant(time, &GOOD_CURRENTS),
         _ => Ok(()),
     }
 }
@@ -170,13 +179,13 @@ fn prime(author: &mut Author) -> Played {
 }
 
 /// Some call at a time at which much may happen; nothing if that has passed.
-fn finish(author: &mut Author, time: u64) -> Played {
+pub fn finish(author: &mut Author, time: u64) -> Played {
     if time < author.state().last {
         return Ok(());
     }
-    match author.dice.between(0, 11) {
+    match author.dice.between(0, 13) {
         0 => author.say(Call::Limit(time, author.state().limit)),
-        1 => author.limit(time, &GOOD_LIMITS),
+        1 => author.limit(time, &GOOD_CURRENTS),
         2 => author.measure(time, author.allowance() + 1),
         3 => author.measure(time, author.allowance()),
         4 => author.fault(time),
@@ -185,6 +194,8 @@ fn finish(author: &mut Author, time: u64) -> Played {
         7 => author.van_at(time, Band::C),
         8 => author.van_at(time, Band::D),
         9 => author.no_diode_at(time, Band::D),
+        10 => author.grant(time, &GOOD_CURRENTS),
+        11 => author.grant(time, &LOW_CURRENTS),
         _ => author.say(Call::Tick(time)),
     }
 }
@@ -200,11 +211,13 @@ pub fn over_run(author: &mut Author) -> Played {
         return Ok(());
     };
     let time = author.soon();
-    match author.dice.between(0, 7) {
+    match author.dice.between(0, 9) {
         0 => author.measure(time, most)?,
         1 => author.measure(time, most + 1)?,
-        2 => author.limit(time, &LOW_LIMITS)?,
-        3 => author.limit(time, &GOOD_LIMITS)?,
+        2 => author.limit(time, &LOW_CURRENTS)?,
+        3 => author.limit(time, &GOOD_CURRENTS)?,
+        4 => author.grant(time, &LOW_CURRENTS)?,
+        5 => author.grant(time, &GOOD_CURRENTS)?,
         _ => {}
     }
     let band = author.ready_band();
@@ -214,7 +227,7 @@ pub fn over_run(author: &mut Author) -> Played {
     finish(author, start + 5_001)
 }
 
-/// An over-run under a duty that the depot changes, once or twice, and then to its 5,000 ms, mostly.
+/// An over-run, while what it is judged by changes, once or twice, and then to its 5,000 ms, mostly.
 pub fn slow_down(author: &mut Author) -> Played {
     close(author)?;
     let (time, most) = (author.soon(), author.allowance());
@@ -222,11 +235,11 @@ pub fn slow_down(author: &mut Author) -> Played {
     let age = author.dice.pick(&[4_999, 4_999, 5_000, 20, 2_500]);
     if let Some(start) = author.state().overrun {
         author.hold_until(start + age, Band::C)?;
-        author.change_duty(start + age)?;
+        author.change_allowed(start + age)?;
     }
     if author.dice.one_in(2) {
         let time = author.soon();
-        author.change_duty(time)?;
+        author.change_allowed(time)?;
     }
     let Some(start) = author.state().overrun else {
         return Ok(());
@@ -237,42 +250,52 @@ pub fn slow_down(author: &mut Author) -> Played {
 }
 
 impl Author {
-    /// A limit that lowers the duty, raises it or leaves it, if the time has not passed.
-    fn change_duty(&mut self, time: u64) -> Played {
+    /// A limit, or a grant, that lowers the allowed current, raises it or leaves it, if the time has not passed.
+    fn change_allowed(&mut self, time: u64) -> Played {
         let state = self.state();
         if time < state.last {
             return Ok(());
         }
-        let told = match reading(state.wave) {
-            Ok(Reading::Current(announced)) => announced,
-            _ => 6_000,
-        };
-        let limit = match self.dice.between(0, 7) {
+        let by_link = state.digital && self.dice.one_in(2);
+        let told = state.allowed().unwrap_or(LEAST_CURRENT);
+        let current = match self.dice.between(0, 7) {
+            0 if by_link => state.grant,
             0 => state.limit,
             1 => told,
             2 => told.saturating_add(250).min(80_000),
             3 => 80_000,
-            4 => self.dice.pick(&GOOD_LIMITS),
-            5 => (told / 2).max(6_000),
-            _ => (told - 1).max(6_000),
+            4 => self.dice.pick(&GOOD_CURRENTS),
+            5 => (told / 2).max(LEAST_CURRENT),
+            _ => (told - 1).max(LEAST_CURRENT),
         };
-        self.say(Call::Limit(time, limit))
+        self.tell(by_link, time, &[current])
     }
 
-    /// The greatest current that starts no over-run under the present wave.
-    pub fn allowance(&self) -> u32 {
-        match reading(self.state().wave) {
-            Ok(Reading::Current(announced)) => 11 * announced / 10,
-            _ => 0,
+    /// One of these as a grant, or as a limit.
+    pub fn tell(&mut self, by_link: bool, time: u64, of: &[u32]) -> Played {
+        if by_link {
+            self.grant(time, of)
+        } else {
+            self.limit(time, of)
         }
+    }
+
+    /// The greatest current that starts no over-run now.
+    pub fn allowance(&self) -> u32 {
+        11 * self.state().allowed().unwrap_or(0) / 10
     }
 }
 
 /// A stop to its 3,000 ms, mostly.
 pub fn stop(author: &mut Author) -> Played {
+    stop_by(author, false)
+}
+
+/// The same by a grant or by a limit, which may be told twice.
+pub fn stop_by(author: &mut Author, by_link: bool) -> Played {
     close(author)?;
     let time = author.soon();
-    author.limit(time, &LOW_LIMITS)?;
+    author.tell(by_link, time, &LOW_CURRENTS)?;
     let Some(start) = author.state().stop else {
         return Ok(());
     };
@@ -280,11 +303,11 @@ pub fn stop(author: &mut Author) -> Played {
     author.hold_until(within, Band::C)?;
     if author.dice.one_in(2) {
         let time = author.soon();
-        author.limit(time, &LOW_LIMITS)?;
+        author.tell(by_link, time, &LOW_CURRENTS)?;
     }
     author.hold_until(start + 2_990, Band::C)?;
     if author.dice.one_in(3) {
-        return pair_at(author, start + 3_000);
+        return pair_at(author, start + 3_000, &[Band::B, Band::D]);
     }
     for age in [2_999, 3_000, 3_001] {
         finish(author, start + age)?;
@@ -292,9 +315,9 @@ pub fn stop(author: &mut Author) -> Played {
     Ok(())
 }
 
-/// Two samples in one band, the second at this time.
-fn pair_at(author: &mut Author, time: u64) -> Played {
-    let band = author.dice.pick(&[Band::B, Band::D]);
+/// Two samples in one of these bands, the second at this time.
+pub fn pair_at(author: &mut Author, time: u64, of: &[Band]) -> Played {
+    let band = author.dice.pick(of);
     for time in [time - author.dice.between(1, 9), time] {
         if time >= author.state().last {
             author.van_at(time, band)?;
@@ -306,8 +329,11 @@ fn pair_at(author: &mut Author, time: u64) -> Played {
 /// A stop that nothing sound follows: later than 80 ms and 3,000 ms at once.
 pub fn stop_unseen(author: &mut Author) -> Played {
     close(author)?;
-    let time = author.soon();
-    author.limit(time, &LOW_LIMITS)?;
+    let (time, by_link) = (
+        author.soon(),
+        author.state().digital && author.dice.one_in(2),
+    );
+    author.tell(by_link, time, &LOW_CURRENTS)?;
     if author.dice.one_in(2) {
         author.van(Band::B)?;
     }
@@ -336,17 +362,19 @@ pub fn late_d(author: &mut Author) -> Played {
     author.no_diode_at(time, Band::D)
 }
 
-/// Limits and levels that change within milliseconds.
+/// Limits, grants and levels that change within milliseconds.
 pub fn flicker(author: &mut Author) -> Played {
     close(author)?;
     for _ in 0..author.dice.between(5, 30) {
         let time = author.within(2);
-        match author.dice.between(0, 7) {
-            0 => author.limit(time, &LOW_LIMITS)?,
+        match author.dice.between(0, 9) {
+            0 => author.limit(time, &LOW_CURRENTS)?,
             1 => author.limit(time, &CURRENTS)?,
             2 => author.van_at(time, Band::B)?,
             3 => author.van_at(time, Band::D)?,
             4 => author.no_diode_at(time, Band::C)?,
+            5 => author.grant(time, &LOW_CURRENTS)?,
+            6 => author.grant(time, &CURRENTS)?,
             _ => author.van_at(time, Band::C)?,
         }
     }

@@ -2,6 +2,7 @@
 
 use crate::author::{Author, Scene};
 use crate::disturbances::*;
+use crate::linked::*;
 use crate::scenes::*;
 use crate::trial::Played;
 use std::ops::Range;
@@ -9,7 +10,7 @@ use std::ops::Range;
 /// A name, how many lists, and the scenes that make them.
 pub type Style = (&'static str, u64, &'static [Scene]);
 
-pub const STYLES: [Style; 8] = [
+pub const STYLES: [Style; 9] = [
     (
         "charging",
         900,
@@ -34,6 +35,20 @@ pub const STYLES: [Style; 8] = [
     ("refusals", 800, &[refusals, begin_again, close, unbegun]),
     ("clock", 600, &[last_moments, begin_again, close, starve]),
     ("anything", 2_500, &[anything, anything_closed]),
+    (
+        "linked",
+        800,
+        &[
+            charge_by_link,
+            late_grant,
+            next_van,
+            stop_by_grant,
+            given_back,
+            both_reasons,
+            over_least,
+            a_with_a_latch,
+        ],
+    ),
 ];
 
 /// The seeds of a style's lists.

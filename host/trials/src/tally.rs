@@ -1,10 +1,9 @@
 //! How often everything that should occur did.
 
 use crate::pair::Seen;
+use crate::tally_link::Since;
 use chuldariin_log::{Call, Room};
-use chuldariin_model::{
-    begin, driven, duty_for, reading, refusal_of_call, Begin, Conditions, Event, Reading, State,
-};
+use chuldariin_model::{begin, driven, refusal_of_call, Begin, Conditions, Event, State};
 use std::collections::BTreeMap;
 
 /// Sets of opening causes: bit 0 is cause (i), bit 4 is cause (v).
@@ -48,7 +47,11 @@ pub const STATES: [&str; 11] = [
     "U0", "A1", "A2", "B1", "B2", "C1", "C2", "D1", "D2", "E0", "F0",
 ];
 
-pub const REFUSALS: [&str; 9] = ["0", "1", "2", "3", "4", "5", "6", "7", "8"];
+const NUMBERS: [&str; 13] = [
+    "0", "1", "2", "3", "4", "5", "6", "7", "8", "9", "10", "11", "12",
+];
+/// Refusal numbers that a post of either kind can tell.
+pub const REFUSALS: &[&str] = NUMBERS.split_at(9).0;
 pub const FAULTS: [&str; 5] = ["1", "2", "3", "4", "5"];
 
 /// Lengths of windows at the ends of their range.
@@ -69,52 +72,72 @@ pub const MOST_ON: [&str; 3] = ["200,000 on 1", "200,000 on 2", "200,000 on 3"];
 pub const ABOVE_ON: [&str; 3] = ["200,001 on 1", "200,001 on 2", "200,001 on 3"];
 pub const STARTS_ON: [&str; 3] = ["over-run by 1", "over-run by 2", "over-run by 3"];
 
-/// What a list can make of an over-run by its duty (document 02, c).
-pub const RESTARTS: [&str; 11] = [
-    "restarts",
-    "lowered at 4,999",
-    "lowered at 5,000, latches",
-    "lowered again",
-    "lowered, none runs",
-    "raised, runs on",
-    "raised at 4,999, runs on",
-    "same limit at 4,999, runs on",
-    "same duty at 4,999, runs on",
-    "4,999 after a restart, runs on",
-    "5,000 after a restart, latches",
-];
+/// The posts in which a name is wanted.
+#[derive(Clone, Copy, Debug, PartialEq, Eq)]
+pub enum Posts {
+    /// In one of either kind.
+    Any,
+    Plain,
+    Digital,
+    /// In one of each kind.
+    Each,
+}
 
-/// What only an altered controller can make of it.
-pub const ALTERED_RESTARTS: [&str; 3] = ["open", "without a limit call", "from steady, runs on"];
+impl Posts {
+    /// Is it met by so many in plain posts, and in digital ones?
+    fn met(self, [plain, digital]: [u64; 2]) -> bool {
+        match self {
+            Posts::Any => plain + digital > 0,
+            Posts::Plain => plain > 0,
+            Posts::Digital => digital > 0,
+            Posts::Each => plain > 0 && digital > 0,
+        }
+    }
+}
+
+/// Names of a group that are wanted, and where.
+pub type Wanted = (Posts, &'static str, &'static [&'static str]);
 
 /// Counts by group and name.
 #[derive(Clone, Debug, Default)]
 pub struct Tally {
-    counts: BTreeMap<(&'static str, &'static str), u64>,
+    /// In plain posts, and in digital ones.
+    counts: BTreeMap<(&'static str, &'static str), [u64; 2]>,
+    /// The mark of the post that is counted.
+    digital: bool,
     /// When an over-run last restarted.
-    restart: Option<u64>,
+    pub(crate) restart: Option<u64>,
+    pub(crate) since: Since,
 }
 
 impl Tally {
     pub fn count(&mut self, group: &'static str, name: &'static str) {
-        *self.counts.entry((group, name)).or_insert(0) += 1;
+        self.counts.entry((group, name)).or_default()[usize::from(self.digital)] += 1;
     }
 
+    /// In posts of either kind.
     pub fn of(&self, group: &'static str, name: &'static str) -> u64 {
-        self.counts.get(&(group, name)).copied().unwrap_or(0)
+        self.by_kind(group, name).into_iter().sum()
+    }
+
+    fn by_kind(&self, group: &'static str, name: &'static str) -> [u64; 2] {
+        self.counts.get(&(group, name)).copied().unwrap_or([0; 2])
     }
 
     /// Adds the counts of another tally.
     pub fn add(&mut self, other: &Tally) {
-        for (key, count) in &other.counts {
-            *self.counts.entry(*key).or_insert(0) += count;
+        for (key, [plain, digital]) in &other.counts {
+            let counts = self.counts.entry(*key).or_default();
+            counts[0] += plain;
+            counts[1] += digital;
         }
     }
 
     /// Counts one call on which both sides agreed.
     pub fn see(&mut self, seen: &Seen) {
+        self.digital = seen.after.digital;
         let reply = seen.outcome.reply;
-        self.count("refusal", REFUSALS[reply.refusal as usize]);
+        self.count("refusal", NUMBERS[reply.refusal as usize]);
         self.see_state(reply.letter, reply.digit);
         if let Call::Sample(_, window) = seen.call {
             self.see_length(window.length());
@@ -123,12 +146,14 @@ impl Tally {
             self.count("refused", seen.call.word());
             self.see_order(seen);
             self.see_refused_measure(seen);
+            self.see_refused_link(seen);
             return;
         }
         self.count("accepted", seen.call.word());
         self.see_contactor(seen);
         self.see_ages(seen);
         self.see_duty(seen);
+        self.see_link(seen);
         self.see_conditions(&seen.outcome.conditions);
         self.see_measure(seen);
         if let Call::Sample(_, window) = seen.call {
@@ -183,7 +208,7 @@ impl Tally {
         if changed && !before.closed {
             self.count("lines", "kept open");
         }
-        if changed && before.closed && !driven(before.wave) {
+        if changed && before.closed && !driven(before.digital, before.wave) {
             self.count("lines", "kept in a stop");
         }
         let most = lines.into_iter().max().unwrap_or(0);
@@ -245,59 +270,6 @@ impl Tally {
         self.see_pause(before, age(before.opening), &outcome.conditions);
     }
 
-    /// What a duty that is lowered, raised or told again does to an over-run.
-    fn see_duty(&mut self, seen: &Seen) {
-        let (before, after) = (&seen.before, &seen.after);
-        if seen.outcome.restarted {
-            self.see_restart(seen);
-        } else if driven(before.wave) && after.wave < before.wave && driven(after.wave) {
-            self.count("restart", "lowered, none runs");
-        }
-        if let Some(name) = left_running(seen) {
-            self.count("restart", name);
-        }
-        self.see_due(seen);
-        self.restart = match seen.outcome.restarted {
-            true => after.overrun,
-            false => self.restart.filter(|_| after.overrun.is_some()),
-        };
-    }
-
-    /// The ends of the 5,000 ms of an over-run that was restarted, or is about to be.
-    fn see_due(&mut self, seen: &Seen) {
-        let (age, latches) = (overrun_age(seen), seen.outcome.latched[1]);
-        if age == Some(5_000) && latches && would_lower(seen) {
-            self.count("restart", "lowered at 5,000, latches");
-        }
-        if self.restart.is_none() || seen.before.overrun != self.restart {
-            return;
-        }
-        match age {
-            Some(4_999) if seen.after.overrun == self.restart => {
-                self.count("restart", "4,999 after a restart, runs on")
-            }
-            Some(5_000) if latches => self.count("restart", "5,000 after a restart, latches"),
-            _ => {}
-        }
-    }
-
-    /// A restart: how old the over-run was, and what is unlike the usual one.
-    fn see_restart(&mut self, seen: &Seen) {
-        self.count("restart", "restarts");
-        if overrun_age(seen) == Some(4_999) {
-            self.count("restart", "lowered at 4,999");
-        }
-        if self.restart.is_some() && seen.before.overrun == self.restart {
-            self.count("restart", "lowered again");
-        }
-        if !seen.before.closed {
-            self.count("restart", "open");
-        }
-        if !matches!(seen.call, Call::Limit(..)) {
-            self.count("restart", "without a limit call");
-        }
-    }
-
     fn see_pause(&mut self, before: &State, age: Option<u64>, conditions: &Conditions) {
         let due = Conditions {
             pause_over: true,
@@ -328,6 +300,7 @@ impl Tally {
             ("previous sample", c.previous_proven),
             ("one band", c.same_band),
             ("pause", c.pause_over),
+            ("grant", c.granted),
         ];
         let mut missing = singles.iter().filter(|single| !single.1);
         if let (Some((name, _)), None, true) = (missing.next(), missing.next(), c.sample) {
@@ -352,65 +325,39 @@ impl Tally {
         }
     }
 
-    /// The wanted groups and names that never occurred.
-    pub fn missing(&self, wanted: &[(&'static str, &[&'static str])]) -> Vec<String> {
+    /// The wanted groups and names that never occurred where they are wanted.
+    pub fn missing(&self, wanted: &[Wanted]) -> Vec<String> {
         let mut missing = Vec::new();
-        for (group, names) in wanted {
-            let never = names.iter().filter(|name| self.of(group, name) == 0);
-            missing.extend(never.map(|name| format!("{group}: {name}")));
+        for (posts, group, names) in wanted {
+            let never = names
+                .iter()
+                .filter(|name| !posts.met(self.by_kind(group, name)));
+            missing.extend(never.map(|name| format!("{group}: {name} ({posts:?})")));
         }
         missing
     }
 
-    /// A line for each group.
+    /// A line for each group: counts of plain posts, and after a + those of digital ones.
     pub fn table(&self) -> String {
         let mut text = String::new();
         let mut present = "";
-        for ((group, name), count) in &self.counts {
+        for ((group, name), [plain, digital]) in &self.counts {
             if *group != present {
                 text.push_str(&format!("\n{group:>14} |"));
                 present = group;
             }
-            text.push_str(&format!(" {name}: {count};"));
+            text.push_str(&match digital {
+                0 => format!(" {name}: {plain};"),
+                _ => format!(" {name}: {plain} + {digital};"),
+            });
         }
         text.push('\n');
         text
     }
 }
 
-/// How old the over-run is that the call finds; a begin may come at any time.
-fn overrun_age(seen: &Seen) -> Option<u64> {
-    seen.call.time().checked_sub(seen.before.overrun?)
-}
-
-/// Calls that leave a running over-run as it is, though they change the wave or tell a limit.
-fn left_running(seen: &Seen) -> Option<&'static str> {
-    let (before, after) = (&seen.before, &seen.after);
-    if before.overrun.is_none() || after.overrun != before.overrun {
-        return None;
-    }
-    let limit = matches!(seen.call, Call::Limit(..));
-    let late = overrun_age(seen) == Some(4_999);
-    match (before.wave, after.wave) {
-        (from, _) if !driven(from) => Some("from steady, runs on"),
-        (from, to) if from < to && late => Some("raised at 4,999, runs on"),
-        (from, to) if from < to => Some("raised, runs on"),
-        (from, to) if from > to || !limit => None,
-        _ if after.limit == before.limit && late => Some("same limit at 4,999, runs on"),
-        _ if after.limit < before.limit && late => Some("same duty at 4,999, runs on"),
-        _ => None,
-    }
-}
-
-/// Would the lesser of rated and limit, as the call leaves them, lower the duty?
-fn would_lower(seen: &Seen) -> bool {
-    let (before, after) = (&seen.before, &seen.after);
-    let duty = duty_for(after.rated.min(after.limit));
-    driven(before.wave) && duty.is_ok_and(|duty| duty < before.wave)
-}
-
 /// The place that alone is true.
-fn only(places: [bool; 3]) -> Option<usize> {
+pub(crate) fn only(places: [bool; 3]) -> Option<usize> {
     let mut held = (0..3).filter(|&place| places[place]);
     match (held.next(), held.next()) {
         (Some(place), None) => Some(place),
@@ -418,12 +365,12 @@ fn only(places: [bool; 3]) -> Option<usize> {
     }
 }
 
-/// Is the sum of the lines above what the wave allows one of them?
+/// Is the sum of the lines above what is allowed on one of them?
 fn over_together(state: &State, lines: [u32; 3]) -> bool {
-    match reading(state.wave) {
-        Ok(Reading::Current(announced)) => 10 * lines.iter().sum::<u32>() > 11 * announced,
-        _ => false,
-    }
+    let sum: u32 = lines.iter().sum();
+    state
+        .allowed()
+        .is_some_and(|allowed| 10 * sum > 11 * allowed)
 }
 
 /// Would a call in time be refused by 1?
@@ -431,16 +378,17 @@ fn altered(state: &State) -> bool {
     refusal_of_call(state, state.last, &Event::Tick) == 1
 }
 
-/// Would a fresh controller refuse this too?
+/// Would a fresh controller refuse this by 4 to 8?
 fn refused_anyway(event: &Event) -> bool {
     let usual = Begin {
         time: 0,
         rated: 32_000,
         pause: 0,
         ventilation: false,
+        digital: false,
     };
     match begin(&usual) {
-        Ok((fresh, _)) => refusal_of_call(&fresh, 0, event) != 0,
+        Ok((fresh, _)) => (4..=8).contains(&refusal_of_call(&fresh, 0, event)),
         Err(_) => false,
     }
 }

@@ -32,16 +32,9 @@ pub fn wild(dice: &mut Dice) -> raw::Controller {
     let last = wild_last(dice);
     let mut c = Controller::ZEROED;
     c.settings = wild_settings(dice);
-    c.limit = seldom(
-        dice,
-        &[80_001, u32::MAX],
-        &[0, 5_999, 6_000, 32_000, 80_000],
-    );
-    c.wave = seldom(
-        dice,
-        &[1, 99, 961, 999, 1_001, u32::MAX],
-        &[0, 100, 533, 960, 1_000],
-    );
+    c.limit = wild_current(dice);
+    c.grant = wild_current(dice);
+    c.wave = wild_wave(dice, c.settings.digital);
     c.closed = dice.one_in(2);
     c.settled = wild_byte(dice);
     c.faults = wild_faults(dice);
@@ -91,7 +84,25 @@ fn wild_settings(dice: &mut Dice) -> raw::Settings {
             false => dice.pick(&[1_000, 3_000, 10_000, 60_000]),
         },
         ventilation: dice.one_in(2),
+        digital: dice.one_in(2),
     }
+}
+
+/// A limit or a grant, mA.
+fn wild_current(dice: &mut Dice) -> u32 {
+    let rare = [80_001, u32::MAX];
+    seldom(dice, &rare, &[0, 5_999, 6_000, 32_000, 80_000])
+}
+
+/// A wave of such a post; the rare ones are a post's of the other mark, or none's.
+fn wild_wave(dice: &mut Dice, digital: bool) -> u32 {
+    let (own, other): (&[u32], &[u32]) = match digital {
+        true => (&[0, 50, 1_000], &[100, 533, 960]),
+        false => (&[0, 100, 533, 960, 1_000], &[50]),
+    };
+    let neither = [1, 49, 51, 99, 961, 999, 1_001, u32::MAX];
+    let rare = [dice.pick(other), dice.pick(&neither)];
+    seldom(dice, &rare, own)
 }
 
 /// Half of them C or D.

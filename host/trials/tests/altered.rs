@@ -7,7 +7,10 @@ use chuldariin_log::{Call, Window};
 use chuldariin_trials::author::write_from;
 use chuldariin_trials::dice::Dice;
 use chuldariin_trials::edges::LARGEST;
-use chuldariin_trials::tally::{Tally, ALTERED_RESTARTS, CAUSES, FAULTS, REFUSALS, STATES};
+use chuldariin_trials::tally::Posts::{Digital, Each, Plain};
+use chuldariin_trials::tally::{Tally, Wanted, CAUSES, FAULTS, REFUSALS, STATES};
+use chuldariin_trials::tally_duty::ALTERED_RESTARTS;
+use chuldariin_trials::tally_link::{ALTERED_IN_A, JUDGED_IN_A, OVER_11, OVER_12};
 use chuldariin_trials::trial::Trial;
 use chuldariin_trials::wild::{faults, verdict, wild, AGES, BYTES, CLOSINGS};
 
@@ -30,8 +33,26 @@ sample 70030 3000 -12000
 sample 70040 3000 -12000
 ";
 
+/// Charging in a digital post.
+const CHARGING_BY_LINK: &str = "\
+begin 70000 32000 0 no digital
+limit 70000 32000
+sample 70010 9000 9000
+sample 70020 9000 9000
+link 70025 20000
+sample 70030 6000 -12000
+sample 70040 6000 -12000
+";
+
+/// The van of a digital post has left: A, and no grant.
+const LEFT: &str = "\
+sample 70050 12000 -12000
+sample 70060 12000 -12000
+link 70070 20000
+";
+
 /// The lists, in two parts, that lead to the controllers which are altered.
-const LISTS: [(&str, &str); 8] = [
+const LISTS: [(&str, &str); 14] = [
     ("begin 70000 32000 0 no\n", ""),
     (CHARGING, ""),
     (CHARGING_D, ""),
@@ -40,6 +61,15 @@ const LISTS: [(&str, &str); 8] = [
     (CHARGING, "tick 70121\nsample 70130 6000 -12000\n"),
     (CHARGING, "fault 70050 3\n"),
     (CHARGING, "sample 70050 6000 0\n"),
+    ("begin 70000 32000 0 no digital\n", ""),
+    (CHARGING_BY_LINK, ""),
+    (
+        CHARGING_BY_LINK,
+        "measure 70050 22001\nsample 70060 6000 -12000\n",
+    ),
+    (CHARGING_BY_LINK, "link 70050 0\nsample 70060 6000 6000\n"),
+    (CHARGING_BY_LINK, "tick 70121\nsample 70130 6000 -12000\n"),
+    (CHARGING_BY_LINK, LEFT),
 ];
 
 /// The controllers that are altered.
@@ -63,6 +93,9 @@ fn check(trial: &mut Trial, call: Call, name: &str) {
     }
 }
 
+/// Limits and grants at the ends of their ranges, mA.
+const CURRENTS: [u32; 6] = [0, 5_999, 6_000, 80_000, 80_001, u32::MAX];
+
 /// A copy for each of these values.
 fn each<T: Copy>(
     base: &raw::Controller,
@@ -77,15 +110,30 @@ fn each<T: Copy>(
     copies.collect()
 }
 
+/// In the range of either kind of post, of one kind, of none.
 fn waves(base: &raw::Controller) -> Vec<raw::Controller> {
-    let in_range = [0, 100, 101, 850, 851, 959, 960, 1_000];
-    let not = [1, 50, 99, 961, 970, 999, 1_001, u32::MAX];
-    each(base, &[in_range, not].concat(), |c, value| c.wave = value)
+    let either = [0, 1_000];
+    let plain = [100, 101, 533, 850, 851, 959, 960];
+    let digital = [50];
+    let none = [1, 49, 51, 99, 961, 970, 999, 1_001, u32::MAX];
+    let values = [&either[..], &plain, &digital, &none].concat();
+    each(base, &values, |c, value| c.wave = value)
 }
 
 fn limits(base: &raw::Controller) -> Vec<raw::Controller> {
-    let values = [0, 5_999, 6_000, 80_000, 80_001, u32::MAX];
-    each(base, &values, |c, value| c.limit = value)
+    each(base, &CURRENTS, |c, value| c.limit = value)
+}
+
+fn grants(base: &raw::Controller) -> Vec<raw::Controller> {
+    each(base, &CURRENTS, |c, value| c.grant = value)
+}
+
+/// The other mark, with the wave as it is and with waves of either kind of post.
+fn marks(base: &raw::Controller) -> Vec<raw::Controller> {
+    each(base, &[base.wave, 0, 50, 533, 1_000], |c, value| {
+        c.settings.digital = !c.settings.digital;
+        c.wave = value;
+    })
 }
 
 fn rated(base: &raw::Controller) -> Vec<raw::Controller> {
@@ -183,13 +231,26 @@ fn switches(base: &raw::Controller) -> Vec<raw::Controller> {
     })
 }
 
-/// Changes of one field.
+/// A settled with a grant, which no list leads to, and over-runs around their end.
+fn grants_in_a(base: &raw::Controller) -> Vec<raw::Controller> {
+    let overruns = [0, 4_999, 5_000].map(|age| base.last - age);
+    let in_range = [1, 6_000, 80_000].map(|grant| overruns.map(|time| (grant, time)));
+    each(base, &in_range.concat(), |c, (grant, time)| {
+        c.settled = b'A';
+        c.grant = grant;
+        c.overrun = raw::Moment { set: true, time };
+    })
+}
+
+/// Changes of one field, or of those that go together.
 type Change = (&'static str, fn(&raw::Controller) -> Vec<raw::Controller>);
 
 /// Those that refusal 1 looks at, and those that it does not.
-const RANGED: [Change; 10] = [
+const RANGED: [Change; 12] = [
     ("wave", waves),
+    ("mark", marks),
     ("limit", limits),
+    ("grant", grants),
     ("rated", rated),
     ("pause", pauses),
     ("last time", lasts),
@@ -199,7 +260,8 @@ const RANGED: [Change; 10] = [
     ("stop", stops),
     ("closings", closings),
 ];
-const FREE: [Change; 5] = [
+const FREE: [Change; 6] = [
+    ("grant in A", grants_in_a),
     ("lines", lines),
     ("settled", settled),
     ("previous", previous),
@@ -208,32 +270,40 @@ const FREE: [Change; 5] = [
 ];
 
 /// What must have occurred on wild controllers: also every set of causes.
-const WANTED: [(&str, &[&str]); 8] = [
-    ("refusal", &REFUSALS),
-    ("opened by", CAUSES.split_at(1).1),
-    ("latched", &FAULTS),
-    ("restart", &ALTERED_RESTARTS),
-    ("closing", &["in C", "in D"]),
-    ("state", &STATES),
-    (
-        "closes but for",
-        &[
-            "open",
-            "wave",
-            "this sample",
-            "previous sample",
-            "one band",
-            "pause",
-        ],
-    ),
-    (
-        "order",
-        &["3 over 2", "3 over 1", "2 over 1", "1 over 4 to 8"],
-    ),
+const WANTED: [Wanted; 17] = [
+    (Each, "refusal", REFUSALS),
+    (Digital, "refusal", &["11"]),
+    (Plain, "refusal", &["12"]),
+    (Each, "opened by", CAUSES.split_at(1).1),
+    (Each, "latched", &FAULTS),
+    (Plain, "restart", &ALTERED_RESTARTS),
+    (Each, "closing", &["in C", "in D"]),
+    (Each, "state", &STATES),
+    (Each, "closes but for", &MISSING),
+    (Digital, "closes but for", &["grant"]),
+    (Each, "order", &ORDERS),
+    (Plain, "order", &["1 over 12", "12 over 11"]),
+    (Plain, "order", &OVER_12),
+    (Digital, "order", &["1 over 11"]),
+    (Digital, "order", &OVER_11),
+    (Each, "A settled", &ALTERED_IN_A),
+    (Digital, "A settled", &[JUDGED_IN_A]),
 ];
 
+/// Closing conditions that may be missing alone, whatever the post.
+const MISSING: [&str; 6] = [
+    "open",
+    "wave",
+    "this sample",
+    "previous sample",
+    "one band",
+    "pause",
+];
+
+const ORDERS: [&str; 4] = ["3 over 2", "3 over 1", "2 over 1", "1 over 4 to 8"];
+
 /// Calls of each kind at one time.
-fn calls_at(time: u64) -> [Call; 20] {
+fn calls_at(time: u64) -> [Call; 25] {
     let sample = |high, low| Call::Sample(time, Window::Halves(high, low));
     [
         Call::Tick(time),
@@ -247,10 +317,15 @@ fn calls_at(time: u64) -> [Call; 20] {
         Call::MeasureLines(time, [35_178, 35_179, 0]),
         Call::MeasureLines(time, [0, 0, 200_000]),
         Call::MeasureLines(time, [0, 200_001, 0]),
+        Call::Link(time, 0),
+        Call::Link(time, 6_000),
+        Call::Link(time, 80_000),
+        Call::Link(time, 80_001),
         Call::Fault(time, 4),
         Call::Fault(time, 6),
         sample(6_000, -12_000),
         sample(6_000, 0),
+        sample(12_000, -12_000),
         sample(9_000, -12_000),
         sample(3_000, -12_000),
         sample(7_200, -12_000),
@@ -280,14 +355,14 @@ fn each_field_that_refusal_1_looks_at() {
     let bases = bases();
     for change in &RANGED {
         let tally = single_calls(change, &bases);
-        let refused = tally.of("refusal", "1");
         println!(
-            "{}: refused 1 {refused} times, accepted {}",
+            "{}: refused 1 {} times, accepted {}",
             change.0,
+            tally.of("refusal", "1"),
             tally.of("refusal", "0")
         );
-        assert!(refused > 0, "{}: never refused by 1", change.0);
-        assert!(tally.of("refusal", "0") > 0, "{}: never accepted", change.0);
+        let never = tally.missing(&[(Each, "refusal", &["0", "1"])]);
+        assert!(never.is_empty(), "{}: never {}", change.0, never.join("; "));
     }
 }
 
@@ -296,9 +371,9 @@ fn each_field_that_it_does_not() {
     let bases = bases();
     for change in &FREE {
         let tally = single_calls(change, &bases);
-        let accepted = tally.of("refusal", "0");
-        println!("{}: accepted {accepted} times", change.0);
-        assert!(accepted > 0, "{}: never accepted", change.0);
+        println!("{}: accepted {} times", change.0, tally.of("refusal", "0"));
+        let never = tally.missing(&[(Each, "refusal", &["0"])]);
+        assert!(never.is_empty(), "{}: never {}", change.0, never.join("; "));
         assert_eq!(tally.of("refusal", "1"), 0, "{}: refused by 1", change.0);
     }
 }
@@ -307,7 +382,7 @@ fn each_field_that_it_does_not() {
 fn short_lists_on_wild_controllers() {
     let mut tally = Tally::default();
     let mut dice = Dice::new(1);
-    for seed in 0..60_000 {
+    for seed in 0..100_000 {
         let start = wild(&mut dice);
         let written = write_from(start, "wild", seed, &mut tally, |author| {
             let count = author.dice.between(1, 4);

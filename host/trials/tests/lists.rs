@@ -2,10 +2,14 @@
 
 use chuldariin_trials::author::write;
 use chuldariin_trials::styles::{list, seeds, STYLES};
+use chuldariin_trials::tally::Posts::{Any, Digital, Each, Plain};
 use chuldariin_trials::tally::{
-    Tally, ABOVE_ON, FAULTS, LARGEST_ON, MOST_ON, REFUSALS, RESTARTS, STARTS_ON,
+    Tally, Wanted, ABOVE_ON, FAULTS, LARGEST_ON, MOST_ON, REFUSALS, STARTS_ON,
 };
+use chuldariin_trials::tally_duty::RESTARTS;
+use chuldariin_trials::tally_link::*;
 
+/// The calls that every post accepts.
 const WORDS: [&str; 7] = [
     "begin", "sample", "limit", "measure", "fault", "clear", "tick",
 ];
@@ -33,37 +37,62 @@ const AGES: [&str; 10] = [
 const REACHED_STATES: [&str; 10] = ["U0", "A1", "B1", "B2", "C1", "C2", "D1", "D2", "E0", "F0"];
 const LENGTHS: [&str; 8] = ["0", "1", "255", "256", "257", "1,023", "1,024", "1,025"];
 
+/// Closing conditions that a list of calls can leave missing alone, whatever the post.
+const MISSING: [&str; 5] = [
+    "open",
+    "this sample",
+    "previous sample",
+    "one band",
+    "pause",
+];
+
 /// What must have occurred when all lists are done.
-const WANTED: [(&str, &[&str]); 17] = [
-    ("refusal", &REFUSALS),
-    ("accepted", &WORDS),
-    ("refused", &WORDS),
-    ("opened by", &REACHED),
-    ("latched", &FAULTS),
-    ("closing", &["in C", "in D"]),
-    ("state", &REACHED_STATES),
-    ("age", &AGES),
-    ("restart", &RESTARTS),
-    (
-        "closes but for",
-        &[
-            "open",
-            "this sample",
-            "previous sample",
-            "one band",
-            "pause",
-        ],
-    ),
-    ("length", &LENGTHS),
-    ("greatest has", &["7", "8", "9"]),
-    ("lines", &LARGEST_ON),
-    ("lines", &MOST_ON),
-    ("lines", &STARTS_ON),
-    (
-        "lines",
-        &["kept open", "kept in a stop", "over together, none alone"],
-    ),
-    ("refused lines", &ABOVE_ON),
+const WANTED: [Wanted; 19] = [
+    (Each, "refusal", REFUSALS),
+    (Each, "accepted", &WORDS),
+    (Each, "refused", &WORDS),
+    (Each, "opened by", &REACHED),
+    (Each, "latched", &FAULTS),
+    (Each, "closing", &["in C", "in D"]),
+    (Each, "state", &REACHED_STATES),
+    (Each, "age", &AGES),
+    (Plain, "restart", &RESTARTS),
+    (Each, "closes but for", &MISSING),
+    (Any, "length", &LENGTHS),
+    (Any, "greatest has", &["7", "8", "9"]),
+    (Each, "lines", &LARGEST_ON),
+    (Each, "lines", &MOST_ON),
+    (Each, "lines", &STARTS_ON),
+    (Each, "lines", &["kept open", "kept in a stop"]),
+    (Each, "lines", &["over together, none alone"]),
+    (Each, "refused lines", &ABOVE_ON),
+    (Each, "stop", &STOPS),
+];
+
+/// What a link call must have brought about (document 02, e).
+const WANTED_BY_LINK: [Wanted; 22] = [
+    (Digital, "accepted", &["link"]),
+    (Each, "refused", &["link"]),
+    (Digital, "refusal", &["11"]),
+    (Plain, "refusal", &["12"]),
+    (Plain, "order", &["12 over 11"]),
+    (Plain, "order", &OVER_12),
+    (Digital, "order", &OVER_11),
+    (Digital, "closes but for", &["grant"]),
+    (Digital, "grant", &GRANTS),
+    (Digital, "grant", &OUTLIVES),
+    (Digital, "grant", &CLOSES_AFTER),
+    (Digital, "A settled", &IN_A),
+    (Digital, "stop", &GRANT_STOPS),
+    (Digital, "link call", &LINK_CALLS),
+    (Digital, "over-run", &AT_BOUND),
+    (Digital, "over-run", &[NO_READING]),
+    (Digital, "over-run", &ONE_ABOVE),
+    (Digital, "over-run", &LOWER),
+    (Digital, "over-run", &LOWER_LATE),
+    (Digital, "over-run", &LOWER_LATCHES),
+    (Digital, "over-run", &HIGHER),
+    (Digital, "over-run", &TOO_LOW),
 ];
 
 #[test]
@@ -85,6 +114,7 @@ fn both_sides_agree_on_every_list() {
         "the two sides differ\n{}",
         reports.join("\n")
     );
-    let never = tally.missing(&WANTED);
+    let mut never = tally.missing(&WANTED);
+    never.extend(tally.missing(&WANTED_BY_LINK));
     assert!(never.is_empty(), "never occurred: {}", never.join("; "));
 }

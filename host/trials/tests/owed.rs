@@ -90,6 +90,7 @@ impl Host {
             rated: Milliamps(80_000),
             pause: Millis(0),
             ventilation: false,
+            digital: false,
         };
         let (post, _) = Post::begin(begin).expect("settings in range");
         let line = Line {

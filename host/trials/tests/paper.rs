@@ -168,6 +168,107 @@ fn no_other_limit_restarts_it() {
     assert_eq!(after("limit 50 16000\n").overrun, None);
 }
 
+/// The same in a digital post with this grant: B2 at 20, closed at 40 if the grant is enough.
+fn linked(granted: u32, text: &str) -> Vec<Call> {
+    let list = format!("begin 0 32000 0 no digital\nlink 0 {granted}\n{CHARGING}{text}");
+    calls(&list).expect("a list of calls")
+}
+
+#[test]
+fn a_digital_post_drives_50_and_closes_by_its_grant() {
+    for (granted, closed) in [(0, false), (5_999, false), (6_000, true), (80_000, true)] {
+        let state = run(linked(granted, ""));
+        assert_eq!((state.wave, state.closed), (50, closed), "{granted}");
+    }
+    // The partner of the sample that closes came before the grant.
+    let state = run(linked(5_999, "link 45 6000\nsample 50 6000 -12000\n"));
+    assert_eq!((state.closed, state.closings), (true, 1));
+}
+
+#[test]
+fn a_grant_below_6000_stops_for_3_s() {
+    let mut calls = linked(16_000, "");
+    calls.extend(ready(50, 1_000));
+    calls.push(Call::Link(1_000, 5_999));
+    calls.extend(ready(1_010, 3_990));
+    let stopping = run(calls.clone());
+    assert_eq!((stopping.wave, stopping.closed), (1_000, true));
+    let given_back = [calls.clone(), vec![Call::Link(4_000, 6_000)]].concat();
+    let state = run(given_back);
+    assert_eq!((state.wave, state.closed, state.stop), (50, true, None));
+    calls.push(Call::Tick(4_000));
+    let opened = run(calls.clone());
+    assert_eq!((opened.wave, opened.closed), (1_000, false));
+    calls.push(Call::Tick(4_000));
+    let open = run(calls);
+    assert_eq!((open.wave, open.closed, open.grant), (50, false, 5_999));
+}
+
+/// A call that tells a current.
+type Tell = fn(u64, u32) -> Call;
+
+/// The second comes before the first has gone, whichever of them is first.
+#[test]
+fn a_stop_for_limit_and_grant_is_one_stop() {
+    let (limit, link): (Tell, Tell) = (Call::Limit, Call::Link);
+    for (first, second) in [(limit, link), (link, limit)] {
+        let mut calls = linked(16_000, "");
+        calls.extend(ready(50, 1_000));
+        calls.push(first(1_000, 0));
+        calls.extend(ready(1_010, 2_000));
+        calls.extend([second(2_000, 0), first(2_000, 32_000)]);
+        calls.extend(ready(2_010, 3_990));
+        assert_eq!(run(calls.clone()).stop, Some(1_000));
+        calls.push(Call::Tick(4_000));
+        assert!(!run(calls).closed);
+    }
+}
+
+#[test]
+fn an_over_run_of_a_digital_post_is_above_the_least() {
+    for (granted, limit, most) in [
+        (6_005, 80_000, 6_605),
+        (80_000, 6_005, 6_605),
+        (80_000, 80_000, 35_200),
+    ] {
+        for (measured, overrun) in [(most, None), (most + 1, Some(50))] {
+            let text = format!("limit 45 {limit}\nmeasure 50 {measured}\n");
+            let state = run(linked(granted, &text));
+            assert_eq!(state.overrun, overrun, "{granted} {limit} {measured}");
+        }
+    }
+    // A lower grant restarts none.
+    let mut calls = linked(16_000, "measure 40 17601\n");
+    calls.extend(ready(50, 5_030));
+    calls.push(Call::Link(5_039, 10_000));
+    assert!(held(calls.clone(), 5_039).closed);
+    assert!(held(calls, 5_040).faults[1]);
+}
+
+#[test]
+fn a_settled_a_takes_the_grant() {
+    let left = "sample 50 12000 -12000\nsample 60 12000 -12000\n";
+    for (text, grant) in [
+        ("", 0),
+        ("link 65 16000\n", 0),
+        (
+            "sample 70 9000 9000\nlink 75 16000\nsample 80 9000 9000\n",
+            0,
+        ),
+        (
+            "sample 70 9000 9000\nsample 80 9000 9000\nlink 85 16000\n",
+            16_000,
+        ),
+    ] {
+        assert_eq!(
+            run(linked(16_000, &format!("{left}{text}"))).grant,
+            grant,
+            "{text}"
+        );
+    }
+    assert_eq!(run(linked(16_000, "fault 50 3\nclear 60\n")).grant, 16_000);
+}
+
 #[test]
 fn the_last_accepted_measure_is_kept() {
     assert_eq!(after("").lines, [0, 0, 0]);

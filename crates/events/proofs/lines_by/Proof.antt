@@ -2,7 +2,7 @@
 use mathlib.Core.Path.{_≡_, refl, _∙_}
 use mathlib.Core.Bool.{cond}
 use Rattle.window.specs.Evaluation.{Evaluation}
-use Rattle.rules.specs.Calls.{Event, sample, limit, measure, fault, clear, tick, isMeasure}
+use Rattle.rules.specs.Calls.{Event, sample, limit, measure, link, fault, clear, tick, isMeasure}
 use Rattle.rules.specs.Lines.{Lines, noCurrents}
 use Rattle.rules.specs.Step1Event.{linesBy}
 use Rattle.events.specs.Views.{asEvent}
@@ -15,6 +15,7 @@ unfolding linesBy
 chosen (sample window) stored = refl
 chosen (limit current) stored = refl
 chosen (measure lines) stored = refl
+chosen (link granted) stored = refl
 chosen (fault kind) stored = refl
 chosen clear stored = refl
 chosen tick stored = refl

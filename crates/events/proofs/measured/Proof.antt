@@ -1,4 +1,4 @@
--- What the calls ensure, put together, is the definition.
+-- Judged, it is what the call ensures; else the over-run stays.
 use mathlib.Core.Path.{_∙_}
 use Rattle.rules.specs.Step1Event.{overrunAt}
 use Rattle.events.proofs.measured.Statement.{statement}
@@ -6,7 +6,11 @@ use Rattle.events.proofs.measured.Tie as tie
 
 returns : tie.Need-returns
 unfolding overrunAt
-returns c = c .judged-over .ensures ∙ rw (c .before .both .ensures, c .before .before .driven .ensures, c .before .before .before .largest .ensures)
+returns c = rw (c .before .if1 .taken) (c .overrun-at .ensures ∙ rw (c .before .before .largest .ensures))
+
+returns-2 : tie.Need-returns-2
+unfolding overrunAt
+returns-2 c = rw (c .if1 .left)
 
 pub measured-spec : {M : Type 1} → statement M
-measured-spec = tie.close (tie.spec (λ c κs. tt) (λ c κs. tt) (λ c κs. tt) (λ c κs. tt) returns)
+measured-spec = tie.close (tie.spec (λ c κs. tt) (λ c κs. tt) returns returns-2)

@@ -8,12 +8,12 @@ use Rattle.events.proofs.overrun_by.Tie as tie
 
 returns-3 : tie.Need-returns-3
 unfolding overrunBy
-returns-3 c s closed wave overrun =
+returns-3 c s judged allowed overrun =
     c .measured .ensures
-    ∙ (rw (closed, wave, overrun))
+    ∙ (rw (judged, allowed, overrun))
     ∙ sym (ap (λ event. overrunBy (c .before .before .before .before .args .time .0) (asEvent event) s) (c .before .before .event .given .1))
 
 pub overrun-by-spec : {M : Type 1} → statement M
 unfolding overrunBy
 overrun-by-spec =
-    tie.close (tie.spec (λ c. search needs) (λ c. search needs) (λ c. search needs) (λ c κs. tt) (λ c. search needs) (λ c. search needs) (λ c. search needs) (λ c s closed wave overrun. cc) (λ c s closed wave overrun. cc) returns-3 (λ c s closed wave overrun. cc) (λ c s closed wave overrun. cc) (λ c s closed wave overrun. cc))
+    tie.close (tie.spec (λ c. search needs) (λ c. search needs) (λ c. search needs) (λ c κs. tt) (λ c. search needs) (λ c. search needs) (λ c. search needs) (λ c. search needs) (λ c s judged allowed overrun. cc) (λ c s judged allowed overrun. cc) returns-3 (λ c s judged allowed overrun. cc) (λ c s judged allowed overrun. cc) (λ c s judged allowed overrun. cc) (λ c s judged allowed overrun. cc))

@@ -8,10 +8,10 @@ use Rattle.events.proofs.verdict_of.Tie as tie
 
 returns : tie.Need-returns
 unfolding verdict
-returns c s wave ventilation =
-    c .judged .ensures ∙ (rw (wave, ventilation)) ∙ sym (ap (λ event. verdict s (asEvent event)) (c .before .before .event .given .1))
+returns c s driven ventilation =
+    c .judged .ensures ∙ (rw (driven, ventilation)) ∙ sym (ap (λ event. verdict s (asEvent event)) (c .before .before .event .given .1))
 
 pub verdict-of-spec : {M : Type 1} → statement M
 unfolding verdict
 verdict-of-spec =
-    tie.close (tie.spec (λ c. search needs) (λ c κs. tt) (λ c. search needs) (λ c κs. tt) (λ c. search needs) (λ c κs. tt) (λ c. search needs) (λ c κs. tt) (λ c. search needs) (λ c κs. tt) (λ c. search needs) (λ c κs. tt) returns (λ c s wave ventilation. cc) (λ c s wave ventilation. cc) (λ c s wave ventilation. cc) (λ c s wave ventilation. cc) (λ c s wave ventilation. cc))
+    tie.close (tie.spec (λ c. search needs) (λ c κs. tt) (λ c. search needs) (λ c κs. tt) (λ c. search needs) (λ c κs. tt) (λ c. search needs) (λ c κs. tt) (λ c. search needs) (λ c κs. tt) (λ c. search needs) (λ c κs. tt) (λ c. search needs) (λ c κs. tt) returns (λ c s driven ventilation. cc) (λ c s driven ventilation. cc) (λ c s driven ventilation. cc) (λ c s driven ventilation. cc) (λ c s driven ventilation. cc) (λ c s driven ventilation. cc))

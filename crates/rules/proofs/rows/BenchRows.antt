@@ -138,8 +138,9 @@ abbrev sampling : ℕ → Bool → Moment → Moment → Lines → ℕ → Lent
 sampling pause closed opening overrun lines t =
     record {
       state = record {
-        settings = record { rated = 32000; pause = pause; ventilation = false };
+        settings = record { rated = 32000; pause = pause; ventilation = false; digital = false };
         limit = 32000;
+        grant = 0;
         wave = 533;
         closed = closed;
         settled = bandC;

@@ -6,7 +6,7 @@ use Prim.Native.Nat.{ℕ}
 use Rattle.pilot.specs.Bands.{bandB, bandC}
 use Rattle.rules.specs.Answer.{answerToBegin}
 use Rattle.rules.specs.Begin.{Begin, beginRefusal}
-use Rattle.rules.specs.Calls.{limit, measure, fault, clear, tick}
+use Rattle.rules.specs.Calls.{limit, measure, link, fault, clear, tick}
 use Rattle.rules.specs.Lent.{Lent}
 use Rattle.rules.specs.Lines.{noCurrents, onLine1}
 use Rattle.rules.specs.Reply.{letterF, letterU}
@@ -65,8 +65,9 @@ abbrev pub aboveAll : Lent
 aboveAll =
     record {
       state = record {
-        settings = record { rated = 80000; pause = 3000; ventilation = false };
+        settings = record { rated = 80000; pause = 3000; ventilation = false; digital = false };
         limit = 80000;
+        grant = 0;
         wave = 960;
         closed = false;
         settled = bandC;
@@ -97,7 +98,7 @@ linesLent =
 
 -- begin, lent this controller: refused, zeros beside the number, and the controller keeps its currents; accepted, 0 on each line
 abbrev pub beginAt : ℕ → Begin
-beginAt rated = record { time = 0; rated = rated; pause = 3000; ventilation = false }
+beginAt rated = record { time = 0; rated = rated; pause = 3000; ventilation = false; digital = false }
 
 abbrev pub BeginRow : Type 0
 BeginRow =

@@ -8,10 +8,10 @@ use Rattle.units.specs.Wave.{driven}
 use Rattle.window.specs.Evaluation.{refused}
 use Rattle.rules.specs.Begin.{beginRefusal, ratedAllowed, pauseAllowed}
 use Rattle.rules.specs.Calls.{sample, limit}
-use Rattle.rules.specs.Lent.{Lent, lentRefusal, waveAllowed, storedAllowed, timesAllowed, inRange, altered}
+use Rattle.rules.specs.Lent.{Lent, lentRefusal, drivenAllowed, waveAllowed, storedAllowed, timesAllowed, inRange, altered}
 use Rattle.rules.specs.Lines.{Lines}
 use Rattle.rules.specs.State.{Moment, noFaults, empty, setTo, forgotten}
-use Rattle.rules.specs.Refusals.{timeRefusal, limitAllowed, argumentRefusal}
+use Rattle.rules.specs.Refusals.{timeRefusal, limitAllowed, grantAllowed, argumentRefusal}
 
 -- begin's time, rated current and pause, and the refusal
 pub record BeginRow : Type 0 where
@@ -38,7 +38,7 @@ beginRows =
 
 abbrev pub BeginRowsHold : Type 0
 BeginRowsHold =
-    map (λ row. beginRefusal (record { time = row .time; rated = row .rated; pause = row .pause; ventilation = false })) beginRows
+    map (λ row. beginRefusal (record { time = row .time; rated = row .rated; pause = row .pause; ventilation = false; digital = false })) beginRows
     ≡ map (λ row. row .number) beginRows
 
 -- currents above any that a measure brings: no number comes for them
@@ -50,8 +50,9 @@ abbrev pub lent : ℕ → ℕ → ℕ → ℕ → ℕ → Moment → Moment → 
 lent wave current rated pause last sound opening overrun stop closings =
     record {
       state = record {
-        settings = record { rated = rated; pause = pause; ventilation = false };
+        settings = record { rated = rated; pause = pause; ventilation = false; digital = false };
         limit = current;
+        grant = 0;
         wave = wave;
         closed = false;
         settled = 0;
@@ -125,9 +126,9 @@ unfolding fromTo ratedAllowed pauseAllowed beginRefusal
 begin-rows = refl
 
 pub lent-rows : LentRowsHold
-unfolding fromTo driven ratedAllowed pauseAllowed waveAllowed storedAllowed timesAllowed inRange altered lentRefusal timeRefusal limitAllowed argumentRefusal
+unfolding fromTo driven ratedAllowed pauseAllowed drivenAllowed waveAllowed storedAllowed timesAllowed inRange altered lentRefusal timeRefusal limitAllowed grantAllowed argumentRefusal
 lent-rows = (refl, refl, refl, refl)
 
 pub window-row : WindowRow
-unfolding fromTo driven ratedAllowed pauseAllowed waveAllowed storedAllowed timesAllowed inRange altered lentRefusal timeRefusal limitAllowed argumentRefusal
+unfolding fromTo driven ratedAllowed pauseAllowed drivenAllowed waveAllowed storedAllowed timesAllowed inRange altered lentRefusal timeRefusal limitAllowed grantAllowed argumentRefusal
 window-row = refl

@@ -8,7 +8,7 @@ use native.Mathlib.Omega.{arith}
 use lib.IntN.{ℤ, pos, negℤ}
 use lib.Signed.{leZ}
 use Rattle.units.specs.Range.{within, strictlyBetween, fromTo}
-use Rattle.units.specs.Wave.{driven}
+use Rattle.units.specs.Wave.{driven, drivenIn}
 use Rattle.units.proofs.LevelOrder.{and-parts}
 use Rattle.pilot.specs.Bands.{bandOf, ready, isBCD}
 use Rattle.pilot.specs.Verdicts.{sound, proven, diodeBad, verdictOf}
@@ -17,19 +17,19 @@ use Rattle.duty.specs.GreatestBelow.{orElse, greatestBelow}
 use Rattle.duty.specs.Reading.{readingOf}
 use Rattle.window.specs.Evaluation.{Evaluation, levels, readingAllowed}
 use Rattle.rules.specs.Answer.{begun, next, replyTo, lentAfter, repliesTo}
-use Rattle.rules.specs.Calls.{Event, Call, sample, limit, measure, fault, clear, tick, evaluatedCall, EvaluatedCall, evaluated, inTurn}
-use Rattle.rules.specs.Lent.{Lent, waveAllowed, storedAllowed, timesAllowed, inRange, altered, lentRefusal}
+use Rattle.rules.specs.Calls.{Event, Call, sample, limit, measure, link, fault, clear, tick, evaluatedCall, EvaluatedCall, evaluated, inTurn}
+use Rattle.rules.specs.Lent.{Lent, drivenAllowed, waveAllowed, storedAllowed, timesAllowed, inRange, altered, lentRefusal}
 use Rattle.rules.specs.Lines.{Lines, noCurrents, largest, lineAllowed, linesAllowed}
 use Rattle.rules.specs.Reply.{Reply, letter, digit, faultShown}
 use Rattle.rules.specs.Begin.{ratedAllowed, pauseAllowed, pauseFor, fresh}
 use Rattle.rules.specs.Pairs.{windowVerdict, verdict, paired, sameBand, inOneBand, bothProven, bothDiodeBad, bothUnsound}
-use Rattle.rules.specs.Refusals.{timeRefusal, kindAllowed, limitAllowed, argumentRefusal}
+use Rattle.rules.specs.Refusals.{timeRefusal, kindAllowed, limitAllowed, grantAllowed, linkRefusal, argumentRefusal}
 use Rattle.rules.specs.State.{anyFault}
-use Rattle.rules.specs.Step1Event.{settledBy, soundBy, limitBy, linesBy, withKind, faultsBy, currentOf, announced, isOver, overrunAt, overrunBy}
+use Rattle.rules.specs.Step1Event.{settledBy, soundBy, limitBy, linesBy, withKind, faultsBy, grantStored, grantBy, currentOf, announced, allowedBy, isOver, overrunAt, overrunBy}
 use Rattle.rules.specs.Step2Latches.{ranFor, overCurrent, unsettles, latched}
-use Rattle.rules.specs.Step3Wave.{isSettled, isUAE, unventilatedD, available, noDuty, sent, waveFor, lowersDuty, restarts, overrunUnder, stopUnder}
+use Rattle.rules.specs.Step3Wave.{isSettled, isUAE, unventilatedD, available, noDuty, sent, ungranted, drivenWave, heldHigh, waveFor, lowersDuty, restarts, overrunUnder, stopUnder}
 use Rattle.rules.specs.Step4Opening.{cause1, cause2, cause3, cause4, cause5, cause, opens}
-use Rattle.rules.specs.Step5Closing.{pauseOver, closes, closingsBy}
+use Rattle.rules.specs.Step5Closing.{pauseOver, granted, closes, closingsBy}
 use Rattle.rules.proofs.rows.Squares.{squareWindow, square-levels}
 
 -- the two levels of a square window
@@ -46,6 +46,7 @@ abbrev pub windowed : Event Levels → Event (List ℤ)
 windowed (sample window) = sample (squareWindow (window .high) (window .low))
 windowed (limit current) = limit current
 windowed (measure lines) = measure lines
+windowed (link granted) = (link granted)
 windowed (fault kind) = fault kind
 windowed clear = clear
 windowed tick = tick
@@ -106,17 +107,17 @@ row = showing noCurrents
 
 -- the controllers of begin at a time: rated 32 A with a pause that begin names, and rated 32 A and 80 A with pause 0; no ventilation
 abbrev pub at32AWith : ℕ → ℕ → Lent
-at32AWith pause time = begun (record { time = time; rated = 32000; pause = pause; ventilation = false })
+at32AWith pause time = begun (record { time = time; rated = 32000; pause = pause; ventilation = false; digital = false })
 
 abbrev pub at32A : ℕ → Lent
 at32A time = at32AWith 0 time
 
 abbrev pub at80A : ℕ → Lent
-at80A time = begun (record { time = time; rated = 80000; pause = 0; ventilation = false })
+at80A time = begun (record { time = time; rated = 80000; pause = 0; ventilation = false; digital = false })
 
 -- a post with ventilation, and a pause that begin names
 abbrev pub withVentilation : Lent
-withVentilation = begun (record { time = 0; rated = 80000; pause = 1000; ventilation = true })
+withVentilation = begun (record { time = 0; rated = 80000; pause = 1000; ventilation = true; digital = false })
 
 -- a first charge: B settles, and C closes 40 after begin
 abbrev pub charging : ℕ → ℕ → List LevelCall
@@ -133,6 +134,7 @@ abbrev pub isSquare : Event Levels → Bool
 isSquare (sample window) = leZ (window .low) (window .high) && (readingAllowed (window .high) && readingAllowed (window .low))
 isSquare (limit current) = true
 isSquare (measure lines) = true
+isSquare (link granted) = true
 isSquare (fault kind) = true
 isSquare clear = true
 isSquare tick = true
@@ -145,6 +147,7 @@ abbrev pub eventOf : Event Levels → Event Evaluation
 eventOf (sample window) = sample (levels (window .high) (window .low))
 eventOf (limit current) = limit current
 eventOf (measure lines) = measure lines
+eventOf (link granted) = (link granted)
 eventOf (fault kind) = fault kind
 eventOf clear = clear
 eventOf tick = tick
@@ -160,6 +163,7 @@ evaluated-is time (sample window) right =
     ap (λ w. record { time = time; event = sample w }) (square-levels (window .high) (window .low) (one .0) (two .0) (two .1))
 evaluated-is time (limit current) right = refl
 evaluated-is time (measure lines) right = refl
+evaluated-is time (link granted) right = refl
 evaluated-is time (fault kind) right = refl
 evaluated-is time clear right = refl
 evaluated-is time tick right = refl
@@ -201,7 +205,7 @@ tells-by sequence lent right rights comes answers =
 
 -- a call computed on levels: what unfolds this unfolds every definition that a call goes through
 unfoldable pub computed : Lent → List LevelCall → Lent
-unfolding within strictlyBetween fromTo driven bandOf ready isBCD sound proven diodeBad verdictOf atMost allowed orRefusal dutyFor orElse greatestBelow readingOf next ratedAllowed pauseAllowed pauseFor fresh waveAllowed storedAllowed timesAllowed inRange altered lentRefusal windowVerdict verdict paired sameBand inOneBand bothProven bothDiodeBad bothUnsound timeRefusal kindAllowed limitAllowed largest lineAllowed linesAllowed argumentRefusal letter digit faultShown anyFault settledBy soundBy limitBy linesBy withKind faultsBy currentOf announced isOver overrunAt overrunBy ranFor overCurrent unsettles latched isSettled isUAE unventilatedD available noDuty sent waveFor lowersDuty restarts overrunUnder stopUnder cause1 cause2 cause3 cause4 cause5 cause opens pauseOver closes closingsBy
+unfolding within strictlyBetween fromTo driven drivenIn bandOf ready isBCD sound proven diodeBad verdictOf atMost allowed orRefusal dutyFor orElse greatestBelow readingOf next ratedAllowed pauseAllowed pauseFor fresh drivenAllowed waveAllowed storedAllowed timesAllowed inRange altered lentRefusal windowVerdict verdict paired sameBand inOneBand bothProven bothDiodeBad bothUnsound timeRefusal kindAllowed limitAllowed grantAllowed largest lineAllowed linesAllowed linkRefusal argumentRefusal letter digit faultShown anyFault settledBy soundBy limitBy linesBy withKind faultsBy grantStored grantBy currentOf announced allowedBy isOver overrunAt overrunBy ranFor overCurrent unsettles latched isSettled isUAE unventilatedD available noDuty sent ungranted drivenWave heldHigh waveFor lowersDuty restarts overrunUnder stopUnder cause1 cause2 cause3 cause4 cause5 cause opens pauseOver granted closes closingsBy
 computed lent calls = lentOn lent calls
 
 pub lent-append : (lent : Lent) (first rest : List LevelCall) → lentOn lent (first ++ rest) ≡ lentOn (lentOn lent first) rest

@@ -111,8 +111,9 @@ abbrev since100 : ℕ → ℕ → Lent
 since100 current wave =
     record {
       state = record {
-        settings = record { rated = 80000; pause = 10000; ventilation = false };
+        settings = record { rated = 80000; pause = 10000; ventilation = false; digital = false };
         limit = current;
+        grant = 0;
         wave = wave;
         closed = true;
         settled = bandC;

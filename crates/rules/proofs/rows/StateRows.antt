@@ -13,13 +13,14 @@ use Rattle.rules.proofs.rows.Sequences.{LevelCall, callOf, call, at80A}
 use Rattle.rules.specs.State.{Moment, Faults, noFaults, empty, setTo, forgotten}
 use Rattle.rules.proofs.rows.Sequences.{lent-on, computed}
 
--- begin at 5, with pause 0 and ventilation
+-- begin of a digital post at 5, with pause 0 and ventilation
 abbrev pub FreshRow : Type 0
 FreshRow =
-    fresh (record { time = 5; rated = 32000; pause = 0; ventilation = true })
+    fresh (record { time = 5; rated = 32000; pause = 0; ventilation = true; digital = true })
     ≡ record {
-      settings = record { rated = 32000; pause = 10000; ventilation = true };
+      settings = record { rated = 32000; pause = 10000; ventilation = true; digital = true };
       limit = 0;
+      grant = 0;
       wave = 1000;
       closed = false;
       settled = 0;
@@ -51,8 +52,9 @@ abbrev pub unreachedBy : ℕ → ℕ → Bool → Faults → Moment → Moment �
 unreachedBy limit wave closed faults overrun stop last =
     record {
       state = record {
-        settings = record { rated = 80000; pause = 3000; ventilation = false };
+        settings = record { rated = 80000; pause = 3000; ventilation = false; digital = false };
         limit = limit;
+        grant = 0;
         wave = wave;
         closed = closed;
         settled = bandC;

@@ -3,4 +3,4 @@ use Rattle.waves.proofs.wave_for.Statement.{statement}
 use Rattle.waves.proofs.wave_for.Tie as tie
 
 pub wave-for-spec : {M : Type 1} → statement M
-wave-for-spec = tie.close (tie.spec (λ c κs. tt) (λ c κs. tt) (λ c κs. tt) (λ c. cc))
+wave-for-spec = tie.close (tie.spec (λ c κs. tt) (λ c κs. tt) (λ c. cc))

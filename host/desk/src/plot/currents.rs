@@ -1,4 +1,4 @@
-//! The announced current, the limit, and what was measured.
+//! The allowed current, the limit, the grant of a digital post, and what was measured.
 
 use super::reduce::{reduce, steps, Point};
 use super::scale::{Panel, Scale};
@@ -10,6 +10,9 @@ use crate::words::largest;
 /// A measured current, and the ring around the largest of three, px.
 const DOT: f64 = 2.2;
 const RING: f64 = 3.8;
+
+/// How the grant is drawn, where a list is digital: broad and pale, so that it is seen behind what is allowed.
+const GRANT: &str = ".grant{fill:none;stroke:#ffbfe0;stroke-width:5}";
 
 /// Ends of the panel, A.
 const TOPS: [u32; 6] = [10, 20, 40, 60, 90, 200];
@@ -31,14 +34,18 @@ pub fn draw(svg: &mut Svg, track: &Track, scale: &Scale) {
     svg.text(8.0, CURRENTS - 6.0, 12.0, Anchor::Start, "title", "current");
     lines(svg, track, scale, &panel);
     svg.frame(LEFT, panel.top, RIGHT - LEFT, panel.height);
-    legend(svg, track.three_lines);
+    legend(svg, track);
 }
 
 fn lines(svg: &mut Svg, track: &Track, scale: &Scale, panel: &Panel) {
     let place = |run: &Run<u32>| (scale.x(run.0), panel.y(run.1.into()));
     let line = |runs: &[Run<u32>]| steps(runs.iter().map(place), scale.x(track.end));
     svg.path(&line(&track.rated), "rated");
-    svg.path(&line(&track.announced), "announced");
+    if track.digital {
+        svg.style(GRANT);
+        svg.path(&line(&track.grant), "grant");
+    }
+    svg.path(&line(&track.allowed), "announced");
     svg.path(&line(&track.limit), "limit");
     let dots = |current: fn([u32; 3]) -> u32| {
         reduce(track.measured.iter().map(|&(at, lines)| {
@@ -63,7 +70,7 @@ fn lines(svg: &mut Svg, track: &Track, scale: &Scale, panel: &Panel) {
 
 /// The least end that all currents stay below.
 fn most(track: &Track) -> u32 {
-    let runs = track.limit.iter().chain(&track.rated);
+    let runs = track.limit.iter().chain(&track.rated).chain(&track.grant);
     let measured = track.measured.iter().map(|run| largest(run.1).1);
     let all = runs.map(|run| run.1).chain(measured);
     let greatest = all.max().unwrap_or(0);
@@ -71,8 +78,21 @@ fn most(track: &Track) -> u32 {
     *TOPS.iter().find(above).unwrap_or(&TOPS[TOPS.len() - 1])
 }
 
-fn legend(svg: &mut Svg, three_lines: bool) {
-    let dots: &[(&str, &str, f64)] = match three_lines {
+/// Lines by class, words and room; a plain post announces what it allows.
+const PLAIN: [(&str, &str, f64); 3] = [
+    ("announced", "announced", 110.0),
+    ("limit", "depot's limit", 118.0),
+    ("rated", "rated", 78.0),
+];
+const DIGITAL: [(&str, &str, f64); 4] = [
+    ("announced", "allowed", 94.0),
+    ("grant", "grant", 84.0),
+    ("limit", "depot's limit", 118.0),
+    ("rated", "rated", 78.0),
+];
+
+fn legend(svg: &mut Svg, track: &Track) {
+    let dots: &[(&str, &str, f64)] = match track.three_lines {
         false => &[("measured", "measured", DOT)],
         true => &[
             ("line1", "line 1", DOT),
@@ -81,13 +101,11 @@ fn legend(svg: &mut Svg, three_lines: bool) {
             ("largest", "largest", RING),
         ],
     };
+    let lines: &[(&str, &str, f64)] = if track.digital { &DIGITAL } else { &PLAIN };
+    let room: f64 = lines.iter().map(|line| line.2).sum();
     let y = CURRENTS - 6.0;
-    let mut x = RIGHT - 352.0 - 68.0 * dots.len() as f64;
-    for (class, words, width) in [
-        ("announced", "announced", 110.0),
-        ("limit", "depot's limit", 118.0),
-        ("rated", "rated", 78.0),
-    ] {
+    let mut x = RIGHT - 46.0 - room - 68.0 * dots.len() as f64;
+    for &(class, words, width) in lines {
         svg.line((x, y - 4.0), (x + 24.0, y - 4.0), class);
         svg.text(x + 30.0, y, 11.0, Anchor::Start, "faint", words);
         x += width;

@@ -7,7 +7,7 @@
 //! | `scale` | time and values to places; the time axis |
 //! | `reduce` | fewer points, where several fall on one pixel |
 //! | `levels` | the high and the low level over the bands |
-//! | `currents` | the announced current, the limit, and what was measured |
+//! | `currents` | the allowed current, the limit, the grant of a digital post, and what was measured |
 //! | `strips` | contactor, state, over-run, fault and refusals |
 //! | `marks` | closings and openings, and the list of causes |
 

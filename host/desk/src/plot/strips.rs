@@ -4,7 +4,7 @@ use super::scale::Scale;
 use super::svg::{Anchor, Svg};
 use super::track::{Run, Track};
 use super::{LEFT, RIGHT, STRIPS};
-use crate::causes::{fault_2_at, fault_2_due};
+use crate::running::{fault_2_at, fault_2_due};
 use crate::table::state;
 use crate::turn::Overrun;
 use crate::words::faults;
@@ -80,7 +80,7 @@ pub fn draw(svg: &mut Svg, track: &Track, scale: &Scale) {
 
 /// An over-run and when fault 2 comes; paler where a lowered duty has restarted it.
 fn run_of(overrun: Overrun) -> Option<Part> {
-    let (due, short) = (fault_2_due(overrun.start), fault_2_at(overrun.start));
+    let (due, short) = (fault_2_due(&overrun), fault_2_at(overrun.start));
     match overrun.restarted() {
         false => Part::new(&format!("over-run: {due}"), &short, "#ffb77c"),
         true => Part::new(

@@ -58,6 +58,11 @@ impl Svg {
         self.0.push('\n');
     }
 
+    /// The style of a class that few pictures have.
+    pub fn style(&mut self, rule: &str) {
+        self.push(format_args!("<style>{rule}</style>"));
+    }
+
     pub fn text(&mut self, x: f64, y: f64, size: f64, anchor: Anchor, class: &str, words: &str) {
         let anchor = match anchor {
             Anchor::Start => "start",

@@ -76,7 +76,11 @@ pub struct Track {
     pub samples: Vec<Levels>,
     pub limit: Vec<Run<u32>>,
     pub rated: Vec<Run<u32>>,
-    pub announced: Vec<Run<u32>>,
+    /// What a van may draw under a driven wave, else 0.
+    pub allowed: Vec<Run<u32>>,
+    pub grant: Vec<Run<u32>>,
+    /// A list that is drawn is digital.
+    pub digital: bool,
     /// The currents of each measure; a single one is that of line 1.
     pub measured: Vec<Run<[u32; 3]>>,
     /// A measure has a current for each line.
@@ -97,6 +101,15 @@ pub struct Track {
 fn run<T: PartialEq>(runs: &mut Vec<Run<T>>, at: u64, value: T) {
     if runs.last().is_none_or(|last| last.1 != value) {
         runs.push((at, value));
+    }
+}
+
+/// A plain post's duty announces it; at 5 % it is agreed over the link, within the rated current and the limit.
+fn allowed(state: &State, wave: u32) -> u32 {
+    match reading(wave) {
+        Ok(Reading::Current(Milliamps(current))) => current,
+        Ok(Reading::DigitalOnly) => state.grant.min(state.rated).min(state.limit),
+        _ => 0,
     }
 }
 
@@ -180,13 +193,11 @@ impl Track {
     }
 
     fn values(&mut self, at: u64, state: &State, reply: &raw::Reply) {
-        let announced = match reading(reply.wave) {
-            Ok(Reading::Current(Milliamps(current))) => current,
-            _ => 0,
-        };
+        self.digital |= state.digital;
         run(&mut self.limit, at, state.limit);
         run(&mut self.rated, at, state.rated);
-        run(&mut self.announced, at, announced);
+        run(&mut self.grant, at, state.grant);
+        run(&mut self.allowed, at, allowed(state, reply.wave));
         run(&mut self.closed, at, reply.closed);
         run(&mut self.state, at, (reply.letter, reply.digit));
         run(&mut self.faults, at, state.faults);

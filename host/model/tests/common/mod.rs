@@ -32,7 +32,9 @@ pub fn charging() -> State {
         rated: 32_000,
         pause: 3_000,
         ventilation: false,
+        digital: false,
         limit: 32_000,
+        grant: 0,
         lines: [0; 3],
         wave: 533,
         closed: true,
@@ -43,7 +45,7 @@ pub fn charging() -> State {
         opening: None,
         overrun: None,
         stop: None,
-        previous: Some(verdict(6_000, -12_000, 533, false)),
+        previous: Some(verdict(6_000, -12_000, driven(false, 533), false)),
         closings: 1,
     }
 }
@@ -61,6 +63,7 @@ impl Post {
             rated: 32_000,
             pause,
             ventilation: false,
+            digital: false,
         })
         .unwrap();
         assert_eq!(reply, Reply::of(&state, 0));

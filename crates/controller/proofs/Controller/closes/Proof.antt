@@ -7,7 +7,8 @@ use Rattle.controller.proofs.Controller.closes.Tie as tie
 returns : tie.Need-returns
 unfolding closes pauseOver
 returns c =
-    c .all2 .ensures ∙ rw (c .before .before .all .ensures, c .before .before .before .none-or-at-least-ago .ensures, c .before .before .before .before .both-proven .ensures, c .before .before .before .before .before .driven .ensures)
+    let met = c .before .before in
+    c .all2 .ensures ∙ rw (met .both .ensures, met .before .all .ensures, met .before .before .none-or-at-least-ago .ensures, met .before .before .before .both-proven .ensures, met .before .before .before .before .granted .ensures, met .before .before .before .before .before .is-driven .ensures)
 
 pub closes-spec : {M : Type 1} → statement M
-closes-spec = tie.close (tie.spec (λ c κs. tt) (λ c κs. tt) (λ c κs. tt) (λ c κs. tt) (λ c κs. tt) returns)
+closes-spec = tie.close (tie.spec (λ c κs. tt) (λ c κs. tt) (λ c κs. tt) (λ c κs. tt) (λ c κs. tt) (λ c κs. tt) (λ c κs. tt) returns)

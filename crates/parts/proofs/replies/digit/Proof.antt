@@ -5,4 +5,4 @@ use Rattle.parts.proofs.replies.digit.Tie as tie
 
 pub digit-spec : {M : Type 1} → statement M
 unfolding digit
-digit-spec = tie.close (tie.spec (λ c κs. tt) (λ c κs. tt) (λ c κs. tt) (λ c. cc))
+digit-spec = tie.close (tie.spec (λ c κs. tt) (λ c κs. tt) (λ c. cc))

@@ -6,7 +6,7 @@ use Rattle.pilot.proofs.verdicts.proven.Tie as tie
 
 returns : tie.Need-returns
 unfolding proven
-returns c = c .all .ensures ∙ rw (c .before .before .before .before .driven .ensures, c .before .before .ready .ensures, c .before .before .before .band .ensures, c .before .in-low-band .ensures)
+returns c = c .all .ensures ∙ rw (c .before .before .ready .ensures, c .before .before .before .band .ensures, c .before .in-low-band .ensures)
 
 pub proven-spec : {M : Type 1} → statement M
-proven-spec = tie.close (tie.spec (λ c κs. tt) (λ c κs. tt) (λ c κs. tt) (λ c κs. tt) (λ c κs. tt) returns)
+proven-spec = tie.close (tie.spec (λ c κs. tt) (λ c κs. tt) (λ c κs. tt) (λ c κs. tt) returns)
