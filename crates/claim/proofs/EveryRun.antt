@@ -6,7 +6,7 @@ use Prim.Native.Nat.{ℕ, zero, suc, _≤_}
 use native.Mathlib.Omega.{arith}
 use lib.ListN.{length, getD, take}
 use lib.Seq.{take-length}
-use Rattle.units.specs.Wave.{fivePercent, drivenIn}
+use Rattle.units.specs.Wave.{drivenIn}
 use Rattle.duty.specs.DutyFor.{IsGreatest}
 use Rattle.rules.specs.Answer.{begun, replyTo, lentAfter, repliesTo}
 use Rattle.rules.specs.Begin.{Begin, beginRefusal}
@@ -16,7 +16,7 @@ use Rattle.rules.specs.Lent.{altered}
 use Rattle.rules.specs.RefusalsAre.{RefusedBy}
 use Rattle.rules.specs.Replay.{replay}
 use Rattle.rules.specs.Reply.{shown}
-use Rattle.rules.specs.Step3Wave.{available}
+use Rattle.rules.specs.State.{available}
 use Rattle.rules.specs.Traces.{noCall, before, callAt, lentAt, replyBefore}
 use Rattle.rules.proofs.Altered.{altered-exactly}
 use Rattle.rules.proofs.Booleans.{clash}
@@ -80,6 +80,7 @@ module _ (begin : Begin) (calls : List Call) (begins : Reply) (replies : List Re
         refusals = λ k below. ap (λ r. r .refusal) (replies-are (suc k) below) ∙ list .refusals k below;
         waves = λ k within. ap (λ r. r .wave) (replies-are k within) ∙ list .waves k within;
         lines-are = λ k within. subst (LastMeasured begin calls k) (sym (ap (λ r. r .lines) (replies-are k within))) (list .lines-are k within);
+        grants-are = list .grants-are;
         over-current = list .over-current;
         digital-lowers-none = list .digital-lowers-none;
         contactor-held =
@@ -105,10 +106,10 @@ module _ (begin : Begin) (calls : List Call) (begins : Reply) (replies : List Re
             subst (λ wave. drivenIn (begin .digital) wave ≡ true → IsGreatest (available (before begin calls k)) wave)
             (sym (ap (λ r. r .wave) (replies-are k within) ∙ list .waves k within))
             (λ is. list .reached k within .driven-greatest (mark k ∙ plain) (ap (λ d. drivenIn d (before begin calls k .wave)) (mark k) ∙ is));
-        digital-waves = λ digital k within.
-            subst (λ wave. drivenIn (begin .digital) wave ≡ true → wave ≡ fivePercent)
-            (sym (ap (λ r. r .wave) (replies-are k within) ∙ list .waves k within))
-            (λ is. list .reached k within .driven-five (mark k ∙ digital) (ap (λ d. drivenIn d (before begin calls k .wave)) (mark k) ∙ is));
+        digital-waves = λ digital k within is.
+            let told = ap (λ r. r .wave) (replies-are k within) ∙ list .waves k within in
+            let driven = ap (λ d. drivenIn d (before begin calls k .wave)) (mark k) ∙ ap (drivenIn (begin .digital)) (sym told) ∙ is in
+            omega (arith, told, list .reached k within .driven-five (mark k ∙ digital) driven);
         settings-are = list .settings-are;
         least-pause = list .least-pause;
         reached = list .reached;

@@ -12,13 +12,14 @@ use Rattle.rules.specs.Calls.{Call}
 use Rattle.rules.specs.Claim.{Trace, leastPause, Demand3}
 use Rattle.rules.specs.Every20.{ClosedIsSound}
 use Rattle.rules.specs.EveryList.{Reached}
+use Rattle.rules.specs.LastGranted.{LastGranted}
 use Rattle.rules.specs.LastMeasured.{LastMeasured}
 use Rattle.rules.specs.Lent.{Lent}
 use Rattle.rules.specs.OverCurrent.{OverCurrentExactly, DigitalLowersNone}
 use Rattle.rules.specs.Refusals.{refusal}
 use Rattle.rules.specs.RefusalsAre.{Altered, RefusedBy}
 use Rattle.rules.specs.Replay.{replay}
-use Rattle.rules.specs.Step3Wave.{available}
+use Rattle.rules.specs.State.{available}
 use Rattle.rules.specs.Traces.{noCall, before, callAt, traceOf, replyBefore}
 use Rattle.parts.specs.declared.replies.Reply.{Reply}
 use Rattle.parts.specs.Views.{asReply, asLines}
@@ -46,6 +47,8 @@ pub record EveryRun (begin : Begin) (calls : List Call) (beginReply : Reply) (re
   pub waves : (k : ℕ) → k ≤ length calls → replied beginReply replies k .wave ≡ before begin calls k .wave
   -- the currents that each reply shows are those of the last accepted measure, or 0 (document 02, b)
   pub lines-are : (k : ℕ) → k ≤ length calls → LastMeasured begin calls k (asLines (replied beginReply replies k .lines))
+  -- the grant that is kept is that of the last accepted link call, or 0 with A settled then or since (document 02, e); the controller's follows (`state-is`)
+  pub grants-are : (k : ℕ) → k ≤ length calls → LastGranted begin calls k (before begin calls k .grant)
   -- fault 2 comes exactly with a call that finds the van over its bound for 5,000 or longer, and that comes 5,000 or longer after every lowered duty
   -- (document 02, c); the faults are the replay's, which the replies and the controller follow (`replies-are`, `state-is`)
   pub over-current : OverCurrentExactly begin calls

@@ -12,11 +12,10 @@ use units::Millis;
 use units::conditions;
 ghost use mathlib.Core.Path.{_≡_};
 ghost use Rattle.rules.specs.Accepted.{stepEnd};
-ghost use Prim.Native.Nat.{min};
-ghost use Rattle.rules.specs.State.{isDriven};
+ghost use Rattle.rules.specs.State.{isDriven, available, leastOfThree};
 ghost use Rattle.rules.specs.Step1Event.{judges, stepEvent};
 ghost use Rattle.rules.specs.Step2Latches.{overCurrent, unsettles, stepLatch};
-ghost use Rattle.rules.specs.Step3Wave.{available, heldHigh, stepWave};
+ghost use Rattle.rules.specs.Step3Wave.{heldHigh, stepWave};
 ghost use Rattle.rules.specs.Step4Opening.{cause, opens, stepOpening};
 ghost use Rattle.rules.specs.Step5Closing.{closes};
 ghost use Rattle.parts.specs.Views.{asPair};
@@ -48,7 +47,7 @@ impl Controller {
 
     // The least of grant, rated and limit.
     pub(crate) fn least(self) -> Milliamps
-        ensures { λ r. ⌜ r .0 ≡ min (stateOf self .grant) (min (stateOf self .settings .rated) (stateOf self .limit)) ⌝ }
+        ensures { λ r. ⌜ r .0 ≡ leastOfThree (stateOf self) ⌝ }
     {
         let available = self.available();
         self.grant.lesser(available)
@@ -124,8 +123,8 @@ impl Controller {
     {
         let available = self.available();
         let none = waves::no_duty(available, self.settled, self.settings.ventilation);
-        let ungranted = grants::ungranted(self.settings.digital, self.closed, self.grant);
-        conditions::either(none, ungranted)
+        let low_grant = grants::low_grant(self.settings.digital, self.closed, self.grant);
+        conditions::either(none, low_grant)
     }
 
     // Step 3: the wave, and what follows from it for the over-run and the stop.
@@ -192,10 +191,10 @@ impl Controller {
         ensures { λ r. ⌜ r ≡ closes opened (time .0) (asPair pair) (stateOf self) ⌝ }
     {
         let driven = self.is_driven();
-        let granted = grants::granted(self.settings.digital, self.grant);
+        let has_grant = grants::has_grant(self.settings.digital, self.grant);
         let proven = pair.both_proven();
         let pause_over = self.opening.none_or_at_least_ago(self.settings.pause, time);
-        let rest = conditions::all(granted, proven, pause_over);
+        let rest = conditions::all(has_grant, proven, pause_over);
         let met = conditions::both(driven, rest);
         conditions::all(!self.closed, !opened, met)
     }

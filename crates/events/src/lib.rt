@@ -251,7 +251,7 @@ fn overrun_judged(time: Millis, line: Milliamps, allowed: Milliamps, overrun: Mo
 }
 
 // A measure that is judged, by what the post allows.
-fn overrun_at(
+fn overrun_by_allowed(
     time: Millis,
     line: Milliamps,
     digital: bool,
@@ -281,7 +281,7 @@ fn measured(
 {
     let line = lines.largest();
     if judged {
-        overrun_at(time, line, digital, least, wave, overrun)
+        overrun_by_allowed(time, line, digital, least, wave, overrun)
     } else {
         overrun
     }

@@ -13,7 +13,7 @@ ghost use mathlib.Core.Bool.{cond};
 ghost use Rattle.window.specs.Answers.{asEvaluation};
 ghost use Rattle.rules.specs.Begin.{tooLate, beginRefusal};
 ghost use Rattle.rules.specs.Lines.{linesAllowed};
-ghost use Rattle.rules.specs.Lent.{countAllowed, drivenAllowed, waveAllowed};
+ghost use Rattle.rules.specs.Lent.{countAllowed, dutyAllowed, waveAllowed};
 ghost use Rattle.rules.specs.Refusals.{orElse, timeRefusal, windowRefusal, kindAllowed, limitAllowed, linkRefusal, argumentRefusal};
 ghost use Rattle.parts.specs.Views.{asLines, beginsWith};
 ghost use Rattle.events.specs.Views.{asEvent};
@@ -81,9 +81,9 @@ fn kind_allowed(kind: u32) -> bool
     conditions::both(not_below, not_above)
 }
 
-// The driven waves of a post: 5 % of a digital one, 100 to 960 of a plain one.
-fn driven_allowed(digital: bool, wave: u32) -> bool
-    ensures { λ r. ⌜ r ≡ drivenAllowed digital wave ⌝ }
+// The duties that a post of this mark commands: 5 %, or 100 to 960.
+fn duty_allowed(digital: bool, wave: u32) -> bool
+    ensures { λ r. ⌜ r ≡ dutyAllowed digital wave ⌝ }
 {
     let five = units::is_five_percent(wave);
     let driven = units::driven(wave);
@@ -95,9 +95,9 @@ pub fn wave_allowed(digital: bool, wave: u32) -> bool
     ensures { λ r. ⌜ r ≡ waveAllowed digital wave ⌝ }
 {
     let low = wave == 0;
-    let driven = driven_allowed(digital, wave);
+    let duty = duty_allowed(digital, wave);
     let high = wave == 1000;
-    conditions::any_of(low, driven, high)
+    conditions::any_of(low, duty, high)
 }
 
 // The closings of a lent controller.

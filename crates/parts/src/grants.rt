@@ -3,8 +3,8 @@ use units::Milliamps;
 use units::conditions;
 ghost use mathlib.Core.Path.{_≡_};
 ghost use Rattle.rules.specs.Refusals.{grantAllowed};
-ghost use Rattle.rules.specs.Step3Wave.{ungranted};
-ghost use Rattle.rules.specs.Step5Closing.{granted};
+ghost use Rattle.rules.specs.Step3Wave.{lowGrant};
+ghost use Rattle.rules.specs.Step5Closing.{hasGrant};
 
 // The range of a grant.
 pub fn grant_allowed(granted: Milliamps) -> bool
@@ -14,16 +14,16 @@ pub fn grant_allowed(granted: Milliamps) -> bool
 }
 
 // A digital post closes with at least 6,000.
-pub fn granted(digital: bool, grant: Milliamps) -> bool
-    ensures { λ r. ⌜ r ≡ granted digital (grant .0) ⌝ }
+pub fn has_grant(digital: bool, grant: Milliamps) -> bool
+    ensures { λ r. ⌜ r ≡ hasGrant digital (grant .0) ⌝ }
 {
     let enough = grant.at_least(Milliamps(6000));
     conditions::either(!digital, enough)
 }
 
 // Closed with less, it stops its van.
-pub fn ungranted(digital: bool, closed: bool, grant: Milliamps) -> bool
-    ensures { λ r. ⌜ r ≡ ungranted digital closed (grant .0) ⌝ }
+pub fn low_grant(digital: bool, closed: bool, grant: Milliamps) -> bool
+    ensures { λ r. ⌜ r ≡ lowGrant digital closed (grant .0) ⌝ }
 {
     let low = grant.below(Milliamps(6000));
     conditions::all(digital, closed, low)

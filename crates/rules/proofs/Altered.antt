@@ -9,24 +9,24 @@ use Rattle.units.specs.Wave.{driven, fivePercent, steadyLow, steadyHigh}
 use Rattle.units.proofs.FromTo.{outside-exactly}
 use Rattle.units.proofs.LevelOrder.{and-parts}
 use Rattle.rules.specs.Begin.{ratedAllowed, pauseAllowed}
-use Rattle.rules.specs.Lent.{Lent, mostClosings, drivenAllowed, waveAllowed, storedAllowed, timesAllowed, inRange, altered}
+use Rattle.rules.specs.Lent.{Lent, mostClosings, dutyAllowed, waveAllowed, storedAllowed, timesAllowed, inRange, altered}
 use Rattle.rules.specs.Refusals.{limitAllowed, grantAllowed}
-use Rattle.rules.specs.RefusalsAre.{NotDriven, WaveOut, StoredAbove, Altered, wave-out, limit-out, grant-out, rated-out, pause-out, sound-above, opening-above, overrun-above, stop-above, closings-out}
+use Rattle.rules.specs.RefusalsAre.{DutyOut, WaveOut, StoredAbove, Altered, wave-out, limit-out, grant-out, rated-out, pause-out, sound-above, opening-above, overrun-above, stop-above, closings-out}
 use Rattle.rules.specs.State.{State, Moment}
 use Rattle.rules.proofs.Booleans.{clash}
 use Rattle.rules.proofs.Ranges.{InRange, range-parts}
 
 -- each test, and what it means that it fails
-driven-exactly : (digital : Bool) (wave : ℕ) → (drivenAllowed digital wave ≡ false) ↔ NotDriven digital wave
-unfolding drivenAllowed driven
+driven-exactly : (digital : Bool) (wave : ℕ) → (dutyAllowed digital wave ≡ false) ↔ DutyOut digital wave
+unfolding dutyAllowed driven
 driven-exactly true wave = (eqb-false wave fivePercent, ne-eqb wave fivePercent)
 driven-exactly false wave = outside-exactly 100 960 wave
 
 wave-exactly : (digital : Bool) (wave : ℕ) → (waveAllowed digital wave ≡ false) ↔ WaveOut digital wave
 unfolding waveAllowed
-wave-exactly digital wave = (λ e. to (eqb wave steadyLow) (drivenAllowed digital wave) (eqb wave steadyHigh) refl refl refl e, λ out. from out)
+wave-exactly digital wave = (λ e. to (eqb wave steadyLow) (dutyAllowed digital wave) (eqb wave steadyHigh) refl refl refl e, λ out. from out)
   where
-    to : (l d h : Bool) → eqb wave steadyLow ≡ l → drivenAllowed digital wave ≡ d → eqb wave steadyHigh ≡ h → l || (d || h) ≡ false → WaveOut digital wave
+    to : (l d h : Bool) → eqb wave steadyLow ≡ l → dutyAllowed digital wave ≡ d → eqb wave steadyHigh ≡ h → l || (d || h) ≡ false → WaveOut digital wave
     to true d h p q r e = clash refl e
     to false true h p q r e = clash refl e
     to false false true p q r e = clash refl e

@@ -12,7 +12,7 @@ demand3-of t memory laws =
     record {
       exactly = exactly t memory laws;
       proves = proves t memory laws;
-      grants = λ digital k closing. closing-meets t memory laws k closing .1 .granted digital;
+      grants = λ digital k closing. omega (arith, closing-meets t memory laws k closing .1 .has-grant digital);
       pauses = pauses t memory laws;
       counts = counts t memory laws (t .length) (omega arith);
       at-most = at-most t memory laws (t .length) (omega arith);

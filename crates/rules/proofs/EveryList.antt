@@ -11,6 +11,7 @@ use Rattle.rules.specs.EveryList.{EveryList}
 use Rattle.rules.specs.Lent.{altered, lentRefusal}
 use Rattle.rules.specs.Traces.{callAt, replyBefore, answered}
 use Rattle.rules.proofs.Every20.{closed-is-sound}
+use Rattle.rules.proofs.LastGranted.{last-granted}
 use Rattle.rules.proofs.LastMeasured.{last-measured}
 use Rattle.rules.proofs.LentReplies.{lent-refusal, lent-is, tally-not-altered, reply-is, contactor-told, closings-told, demand3}
 use Rattle.rules.proofs.OverCurrent.{over-current, digital-lowers-none}
@@ -32,6 +33,7 @@ every-list begin calls accepted =
       waves = reply-is begin calls accepted (λ l. l .state .wave) (λ k. replyBefore begin calls k .wave) refl (λ k. refl);
       lines-are = λ k within.
           rw (reply-is begin calls accepted (λ l. l .state .lines) (λ k. replyBefore begin calls k .lines) refl (λ k. refl) k within) (last-measured begin calls k within);
+      grants-are = last-granted begin calls;
       over-current = over-current begin calls accepted;
       digital-lowers-none = digital-lowers-none begin calls;
       states-are = λ k within. ap (λ l. l .state) (lent-is begin calls accepted k within);

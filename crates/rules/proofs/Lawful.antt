@@ -32,7 +32,7 @@ module _ (t : Trace) (memory : Memory) where
     pub second-proven : t .verdict k .proven ≡ true
     pub one-band : memory .previous k .verdict .band ≡ t .verdict k .band
     pub has-band : t .verdict k .band ≡ noBand → ⊥
-    pub granted : t .digital ≡ true → 6000 ≤ t .grant k
+    pub has-grant : t .digital ≡ true → 6000 ≤ t .grant k
     pub pauseOver : memory .opening k .set ≡ true → memory .opening k .time + t .pause k ≤ t .time k
 
   pub record Law (k : ℕ) : Type 0 where

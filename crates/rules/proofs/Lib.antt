@@ -26,7 +26,9 @@ pub mod NotOpened
 pub mod Stops
 pub mod Reaching
 pub mod Every20
+pub mod LastSet
 pub mod LastMeasured
+pub mod LastGranted
 pub mod Overruns
 pub mod OverrunsAt
 pub mod OverrunSince

@@ -7,7 +7,7 @@ use Rattle.units.specs.Wave.{driven, steadyHigh}
 use Rattle.rules.specs.Accepted.{accept}
 use Rattle.rules.specs.Begin.{Begin, beginRefusal, fresh}
 use Rattle.rules.specs.Calls.{Call, EvaluatedCall, evaluatedCall, inTurn}
-use Rattle.rules.specs.Lent.{drivenAllowed, waveAllowed, storedAllowed}
+use Rattle.rules.specs.Lent.{dutyAllowed, waveAllowed, storedAllowed}
 use Rattle.rules.specs.Refusals.{limitAllowed, grantAllowed}
 use Rattle.rules.specs.Replay.{isAccepted, step, replay}
 use Rattle.rules.specs.State.{State}
@@ -33,7 +33,7 @@ module _ (Holds : State → Type 0) (keeps : (s : State) (call : EvaluatedCall) 
   replay-keeps begin calls holds = after-keeps (fresh begin) calls holds
 
 high-allowed : (digital : Bool) → waveAllowed digital steadyHigh ≡ true
-unfolding waveAllowed drivenAllowed driven fromTo
+unfolding waveAllowed dutyAllowed driven fromTo
 high-allowed true = refl
 high-allowed false = refl
 

@@ -3,7 +3,7 @@ use mathlib.Core.Path.{_≡_, refl, sym, _∙_, ap}
 use mathlib.Core.Bool.{Bool, true, false, _&&_, _||_, not, cond}
 use mathlib.Core.Logic.{_↔_}
 use Prim.Native.Nat.{ℕ, _+_, _≤_}
-use lib.Dec.{eqb, leb}
+use lib.Dec.{eqb}
 use borrow.Author.Tests.{eqb-true, eqb-false, eq-eqb, ne-eqb, not-true, leb-true, le-leb}
 use Rattle.units.proofs.LevelOrder.{and-parts}
 use Rattle.pilot.specs.Bands.{noBand}
@@ -12,7 +12,7 @@ use Rattle.rules.specs.Calls.{EvaluatedCall, isSample}
 use Rattle.rules.specs.Pairs.{Pair, verdict, paired, sameBand, inOneBand, bothProven}
 use Rattle.rules.specs.State.{State, isDriven, setTo, neverOrAgo}
 use Rattle.rules.specs.Step4Opening.{opens}
-use Rattle.rules.specs.Step5Closing.{pauseOver, granted, closes}
+use Rattle.rules.specs.Step5Closing.{pauseOver, hasGrant, closes}
 use Rattle.rules.proofs.Booleans.{clash, or-true}
 use Rattle.rules.proofs.Lawful.{previousBy}
 use Rattle.rules.proofs.Moments.{never-or-ago}
@@ -116,10 +116,10 @@ pub record MeetsAll (s : State) (call : EvaluatedCall) : Type 0 where
   pub pauses : s .opening .set ≡ true → s .opening .time + s .settings .pause ≤ call .time
 
 -- a grant of at least 6,000 is asked in a digital post alone
-granted-exactly : (digital : Bool) (grant : ℕ) → (granted digital grant ≡ true) ↔ (digital ≡ true → 6000 ≤ grant)
-unfolding granted
-granted-exactly true grant = (λ e is. leb-true 6000 grant e, λ some. le-leb 6000 grant (some refl))
-granted-exactly false grant = (λ e is. clash is refl, λ some. refl)
+has-grant-exactly : (digital : Bool) (grant : ℕ) → (hasGrant digital grant ≡ true) ↔ (digital ≡ true → 6000 ≤ grant)
+unfolding hasGrant
+has-grant-exactly true grant = (λ e is. leb-true 6000 grant e, λ some. le-leb 6000 grant (some refl))
+has-grant-exactly false grant = (λ e is. clash is refl, λ some. refl)
 
 module _ (s : State) (call : EvaluatedCall) where
   not-opened : s .closed ≡ false → opensAt s call ≡ false
@@ -152,13 +152,13 @@ module _ (s : State) (call : EvaluatedCall) where
           let one = and-parts (not (after .closed)) _ met in
           let two = and-parts (not (opensAt s call)) _ (one .1) in
           let three = and-parts (isDriven after) _ (two .1) in
-          let grant = and-parts (granted (s .settings .digital) (grantAt s call)) _ (three .1) in
+          let grant = and-parts (hasGrant (s .settings .digital) (grantAt s call)) _ (three .1) in
           let four = and-parts (bothProven (pairAt s call)) (pauseOver (call .time) after) (grant .1) in
           let still = not-true (opensAt s call) (two .0) in
           record {
             was-open = was (s .closed) (opensAt s call) (not-true (after .closed) (one .0)) still;
             driven-wave = three .0;
-            has-grant = granted-exactly (s .settings .digital) (grantAt s call) .0 (grant .0);
+            has-grant = has-grant-exactly (s .settings .digital) (grantAt s call) .0 (grant .0);
             pair = proven-exactly (pairAt s call) .0 (four .0);
             pauses = never-or-ago pause (call .time) (s .opening) .0 (ap (neverOrAgo pause (call .time)) (sym (opening-same still)) ∙ four .1);
           }
@@ -168,6 +168,6 @@ module _ (s : State) (call : EvaluatedCall) where
           let still = not-opened (all .was-open) in
           let long : pauseOver (call .time) (afterOpening s call) ≡ true =
           ap (neverOrAgo pause (call .time)) (opening-same still) ∙ never-or-ago pause (call .time) (s .opening) .1 (all .pauses) in
-          six (afterOpening s call .closed) (opensAt s call) (isDriven (accept s call)) (granted (s .settings .digital) (grantAt s call)) (bothProven (pairAt s call))
+          six (afterOpening s call .closed) (opensAt s call) (isDriven (accept s call)) (hasGrant (s .settings .digital) (grantAt s call)) (bothProven (pairAt s call))
           (pauseOver (call .time) (afterOpening s call))
-          (ap (λ b. b && not (opensAt s call)) (all .was-open)) still (all .driven-wave) (granted-exactly (s .settings .digital) (grantAt s call) .1 (all .has-grant)) (proven-exactly (pairAt s call) .1 (all .pair)) long
+          (ap (λ b. b && not (opensAt s call)) (all .was-open)) still (all .driven-wave) (has-grant-exactly (s .settings .digital) (grantAt s call) .1 (all .has-grant)) (proven-exactly (pairAt s call) .1 (all .pair)) long

@@ -76,11 +76,11 @@ module _ (s : State) (call : EvaluatedCall) where
       by lines false d o r is ec ed eo er = left (rw (is, ec)) (λ given judged. clash (judged .closed) ec)
       by lines true false o r is ec ed eo er = left (rw (is, ec, ed)) (λ given judged. clash (judged .driven-wave) ed)
       by lines true true true true is ec ed eo er =
-          left (rw (is, ec, ed, eo, er)) (λ given judged. (over-is lines given is judged (ltb-true _ (10 * largest lines) eo), er))
+          left (rw (is, eo, ec, ed, er)) (λ given judged. (over-is lines given is judged (ltb-true _ (10 * largest lines) eo), er))
       by lines true true true false is ec ed eo er =
-          starts lines (record { is = is; closed = ec; driven-wave = ed }) (ltb-true _ (10 * largest lines) eo) er (rw (is, ec, ed, eo, er))
+          starts lines (record { is = is; closed = ec; driven-wave = ed }) (ltb-true _ (10 * largest lines) eo) er (rw (is, eo, ec, ed, er))
       by lines true true false r is ec ed eo er =
-          ends lines (record { is = is; closed = ec; driven-wave = ed }) (ltb-false _ (10 * largest lines) eo) (rw (is, ec, ed, eo))
+          ends lines (record { is = is; closed = ec; driven-wave = ed }) (ltb-false _ (10 * largest lines) eo) (rw (is, eo, ec, ed))
 
       kind : (event : Event Evaluation) → call .event ≡ event → ByEvent
       kind (measure lines) is = by lines (s .closed) (isDriven s) (ltb (11 * allowedCurrent s) (10 * largest lines)) (s .overrun .set) is refl refl refl refl

@@ -9,14 +9,14 @@ use Rattle.units.specs.Wave.{drivenIn}
 use Rattle.rules.specs.Answer.{begun, next, replyTo, lentAfter, repliesTo}
 use Rattle.rules.specs.Begin.{Begin, fresh}
 use Rattle.rules.specs.Calls.{Event, Call, sample, limit, measure, link, fault, clear, tick, evaluated, evaluatedCall, isLink, inTurn}
-use Rattle.rules.specs.Lent.{Lent, drivenAllowed, waveAllowed, inRange, altered, lentRefusal}
+use Rattle.rules.specs.Lent.{Lent, dutyAllowed, waveAllowed, inRange, altered, lentRefusal}
 use Rattle.rules.specs.Pairs.{windowVerdict, verdict}
 use Rattle.rules.specs.PlainPost.{PlainPost, withoutLinks, repliesToOthers, LinksChangeNothing}
 use Rattle.rules.specs.Refusals.{orElse, timeRefusal, grantAllowed, linkRefusal, argumentRefusal}
 use Rattle.rules.specs.State.{State}
 use Rattle.rules.specs.Step1Event.{allowedBy, overrunAt, overrunBy}
-use Rattle.rules.specs.Step3Wave.{ungranted, drivenWave, heldHigh, waveFor, lowersDuty, restarts, overrunUnder, stopUnder}
-use Rattle.rules.specs.Step5Closing.{granted, closes}
+use Rattle.rules.specs.Step3Wave.{lowGrant, drivenWave, heldHigh, waveFor, lowersDuty, restarts, overrunUnder, stopUnder}
+use Rattle.rules.specs.Step5Closing.{hasGrant, closes}
 use Rattle.rules.proofs.Booleans.{clash}
 use Rattle.rules.proofs.LentReplies.{next-by}
 
@@ -25,7 +25,7 @@ or-false true = refl
 or-false false = refl
 
 pub plain-post : (s : State) → s .settings .digital ≡ false → PlainPost s
-unfolding drivenIn verdict windowVerdict allowedBy overrunAt overrunBy ungranted drivenWave heldHigh waveFor lowersDuty restarts overrunUnder stopUnder granted closes drivenAllowed waveAllowed inRange grantAllowed linkRefusal argumentRefusal
+unfolding drivenIn verdict windowVerdict allowedBy overrunAt overrunBy lowGrant drivenWave heldHigh waveFor lowersDuty restarts overrunUnder stopUnder hasGrant closes dutyAllowed waveAllowed inRange grantAllowed linkRefusal argumentRefusal
 plain-post s plain =
     record {
       verdict-is = λ high low. rw plain;

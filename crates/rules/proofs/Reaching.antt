@@ -10,8 +10,8 @@ use Rattle.rules.specs.Calls.{Call, EvaluatedCall}
 use Rattle.rules.specs.EveryList.{Reached}
 use Rattle.rules.specs.Pairs.{verdict}
 use Rattle.rules.specs.Replay.{isAccepted, replay}
-use Rattle.rules.specs.State.{State, anyFault}
-use Rattle.rules.specs.Step3Wave.{unventilatedD, available}
+use Rattle.rules.specs.State.{State, anyFault, available}
+use Rattle.rules.specs.Step3Wave.{unventilatedD}
 use Rattle.rules.proofs.Booleans.{clash}
 use Rattle.rules.proofs.Lists.{replay-keeps}
 use Rattle.rules.proofs.Samples.{fits}
@@ -19,7 +19,7 @@ use Rattle.rules.proofs.Offering.{offered, wave-low-exactly, wave-kinds
 use Rattle.rules.proofs.Opened.{no-overrun, no-stop, runs-driven}
 use Rattle.rules.proofs.Held.{left-closed, previous-fits}
 use Rattle.rules.proofs.Grants.{none-in-a, none-in-plain, driven-granted}
-use Rattle.rules.proofs.Stops.{stop-exactly, ungranted-stops}
+use Rattle.rules.proofs.Stops.{stop-exactly, low-grant-stops}
 use Rattle.rules.proofs.Waves.{high-not-driven}
 
 -- what is kept from call to call
@@ -47,7 +47,7 @@ invariant-holds s call into was =
         none-in-a = none-in-a s call;
         none-in-plain = none-in-plain s call into (before .none-in-plain);
         stop-exactly = stop-exactly s call (before .open-no-stop) (λ e. closed e .no-fault);
-        ungranted-stops = ungranted-stops s call (λ e. closed e .no-fault);
+        low-grant-stops = low-grant-stops s call (λ e. closed e .no-fault);
         open-no-overrun = no-overrun s call (before .open-no-overrun);
         open-no-stop = no-stop s call (before .open-no-stop);
         overrun-closed = λ e. runs (accept s call .closed) refl e;
@@ -80,7 +80,7 @@ fresh-invariant begin =
         none-in-a = λ e. refl;
         none-in-plain = λ plain. refl;
         stop-exactly = (λ e. clash refl (sym e), λ both. clash refl (sym (both .0)));
-        ungranted-stops = λ digital closed few. clash refl (sym closed);
+        low-grant-stops = λ digital closed few. clash refl (sym closed);
         open-no-overrun = λ e. refl;
         open-no-stop = λ e. refl;
         overrun-closed = λ e. clash refl (sym e);

@@ -76,7 +76,7 @@ module _ (begin : Begin) (calls : List Call) where
             second-proven = all .pair .second-proven;
             one-band = all .pair .one-band;
             has-band = all .pair .has-band;
-            granted = λ digital. all .has-grant (mark-is begin calls k ∙ digital);
+            has-grant = λ digital. all .has-grant (mark-is begin calls k ∙ digital);
             pauseOver = all .pauses;
           }
 

@@ -4,11 +4,10 @@ use mathlib.Core.Bool.{Bool, true, false, _&&_, _||_, not, cond}
 use mathlib.Core.Logic.{_↔_}
 use Prim.Native.Nat.{ℕ, _<_}
 use native.Mathlib.Omega.{arith}
-use lib.Dec.{eqb}
 use Rattle.units.specs.Wave.{drivenIn, steadyHigh}
 use Rattle.rules.specs.Accepted.{causeAt, opensAt, closesAt, afterLatch, afterWave, accept}
 use Rattle.rules.specs.Calls.{EvaluatedCall}
-use Rattle.rules.specs.State.{State, Moment, anyFault, isDriven, empty, setTo, startedBy}
+use Rattle.rules.specs.State.{State, Moment, anyFault, empty, setTo, startedBy}
 use Rattle.rules.specs.Step3Wave.{stopUnder}
 use Rattle.rules.specs.Step4Opening.{opens}
 use Rattle.rules.proofs.Booleans.{clash}
@@ -25,23 +24,24 @@ started-set time stop = go (stop .set) refl
     go true p = p
     go false p = refl
 
+stop-runs : (digital : Bool) (time wave : ℕ) (closed : Bool) (stop : Moment) → closed ≡ true → wave ≡ steadyHigh
+    → stopUnder digital time wave closed stop .set ≡ true
+unfolding stopUnder
+stop-runs digital time wave closed stop shut is = rw (shut, is) (started-set time stop)
+
 module _ (s : State) (call : EvaluatedCall) where
   -- what a call leaves closed under steady +12 V was closed before it
   runs : accept s call .closed ≡ true → accept s call .wave ≡ steadyHigh → accept s call .stop .set ≡ true
-  unfolding stopUnder opens
+  unfolding opens
   runs closed wave = go (s .closed) (causeAt s call) (closesAt s call) refl refl refl (sym (closed-next s call) ∙ closed)
     where
-      stays : (c o h d : Bool) → c ≡ true → o ≡ false → h ≡ true
-          → cond o empty (cond (c && h) (startedBy (call .time) (s .stop)) (cond d empty (s .stop))) .set ≡ true
-      stays c o h d p q w = rw (p, q, w) (started-set (call .time) (s .stop))
-
       go : (c r m : Bool) → s .closed ≡ c → causeAt s call ≡ r → closesAt s call ≡ m → (c && not r) || m ≡ true → accept s call .stop .set ≡ true
       go c r true p q w e =
           clash (ap (drivenIn (s .settings .digital)) (sym wave) ∙ closes-exactly s call .0 w .driven-wave) (high-not-driven (s .settings .digital))
       go true true false p q w e = clash refl (sym e)
       go true false false p q w e =
-          stays (s .closed) (opensAt s call) (eqb (accept s call .wave) steadyHigh) (isDriven (accept s call)) p
-          (ap (λ b. b && causeAt s call) p ∙ q) (ap (λ n. eqb n steadyHigh) wave)
+          let still : opensAt s call ≡ false = ap (λ b. b && causeAt s call) p ∙ q in
+          ap (λ o. cond o empty (afterWave s call .stop) .set) still ∙ stop-runs (s .settings .digital) (call .time) (accept s call .wave) (s .closed) (s .stop) p wave
       go false r false p q w e = clash refl (sym e)
 
   -- a stop that runs is under steady +12 V: a driven wave ends it, and a fault opens
@@ -68,9 +68,9 @@ module _ (s : State) (call : EvaluatedCall) where
       to false p set = clash set (no-stop s call before p)
 
   -- closed with a grant below 6,000, a digital post has steady +12 V, and so a stop
-  pub ungranted-stops : (accept s call .closed ≡ true → anyFault (accept s call .faults) ≡ false) → s .settings .digital ≡ true
+  pub low-grant-stops : (accept s call .closed ≡ true → anyFault (accept s call .faults) ≡ false) → s .settings .digital ≡ true
       → accept s call .closed ≡ true → accept s call .grant < 6000 → (accept s call .wave ≡ steadyHigh) × (accept s call .stop .set ≡ true)
-  ungranted-stops no-fault digital closed few =
+  low-grant-stops no-fault digital closed few =
       let wave = go (wave-is (afterLatch s call)) in
       (wave, runs closed wave)
     where

@@ -10,9 +10,9 @@ use Rattle.units.specs.Wave.{driven, fivePercent, drivenIn, steadyLow, steadyHi
 use Rattle.units.proofs.FromTo.{inside}
 use Rattle.duty.specs.DutyFor.{dutyFor, IsGreatest}
 use Rattle.duty.proofs.Laws.{greatest}
-use Rattle.rules.specs.Lent.{drivenAllowed, waveAllowed}
-use Rattle.rules.specs.State.{State, anyFault}
-use Rattle.rules.specs.Step3Wave.{isUAE, unventilatedD, available, noDuty, sent, ungranted, drivenWave, heldHigh, waveFor}
+use Rattle.rules.specs.Lent.{dutyAllowed, waveAllowed}
+use Rattle.rules.specs.State.{State, anyFault, available}
+use Rattle.rules.specs.Step3Wave.{isUAE, unventilatedD, noDuty, sent, lowGrant, drivenWave, heldHigh, waveFor}
 use Rattle.rules.proofs.Booleans.{clash}
 
 -- a steady wave is driven in no post
@@ -27,8 +27,8 @@ low-not-driven true = refl
 low-not-driven false = refl
 
 -- the driven waves of a post are driven in it
-pub allowed-driven : (digital : Bool) (wave : ℕ) → drivenAllowed digital wave ≡ true → drivenIn digital wave ≡ true
-unfolding drivenAllowed drivenIn
+pub allowed-driven : (digital : Bool) (wave : ℕ) → dutyAllowed digital wave ≡ true → drivenIn digital wave ≡ true
+unfolding dutyAllowed drivenIn
 allowed-driven true wave e = rw e
 allowed-driven false wave e = e
 
@@ -37,11 +37,11 @@ pub record Offers (s : State) : Type 0 where
   pub enough : 6000 ≤ available s
   pub state : isUAE (s .settled) ≡ false
   pub ventilated : unventilatedD (s .settled) (s .settings .ventilation) ≡ false
-  pub granted : ungranted (s .settings .digital) (s .closed) (s .grant) ≡ false
+  pub no-low-grant : lowGrant (s .settings .digital) (s .closed) (s .grant) ≡ false
 
 -- the driven wave of a post by its mark: the greatest allowed duty, or 5 %
 pub record DrivenIs (s : State) (wave : ℕ) : Type 0 where
-  pub in-range : drivenAllowed (s .settings .digital) wave ≡ true
+  pub in-range : dutyAllowed (s .settings .digital) wave ≡ true
   pub of-plain : s .settings .digital ≡ false → IsGreatest (available s) wave
   pub of-digital : s .settings .digital ≡ true → wave ≡ fivePercent
 
@@ -51,17 +51,17 @@ module _ (s : State) where
   unfolding heldHigh noDuty
   offers-exactly = (
     λ e. go (ltb (available s) 6000) (isUAE (s .settled)) (unventilatedD (s .settled) (s .settings .ventilation))
-        (ungranted (s .settings .digital) (s .closed) (s .grant)) refl refl refl refl e,
-    λ offer. rw (le-ltb (available s) 6000 (offer .enough), offer .state, offer .ventilated, offer .granted),
+        (lowGrant (s .settings .digital) (s .closed) (s .grant)) refl refl refl refl e,
+    λ offer. rw (le-ltb (available s) 6000 (offer .enough), offer .state, offer .ventilated, offer .no-low-grant),
   )
     where
       go : (low state plain none : Bool) → ltb (available s) 6000 ≡ low → isUAE (s .settled) ≡ state → unventilatedD (s .settled) (s .settings .ventilation) ≡ plain
-          → ungranted (s .settings .digital) (s .closed) (s .grant) ≡ none → (low || (state || plain)) || none ≡ false → Offers s
+          → lowGrant (s .settings .digital) (s .closed) (s .grant) ≡ none → (low || (state || plain)) || none ≡ false → Offers s
       go true state plain none p q r t f = clash refl f
       go false true plain none p q r t f = clash refl f
       go false false true none p q r t f = clash refl f
       go false false false true p q r t f = clash refl f
-      go false false false false p q r t f = record { enough = ltb-false (available s) 6000 p; state = q; ventilated = r; granted = t }
+      go false false false false p q r t f = record { enough = ltb-false (available s) 6000 p; state = q; ventilated = r; no-low-grant = t }
 
   -- the duty that is sent is the greatest allowed one
   sent-greatest : 6000 ≤ available s → IsGreatest (available s) (sent (dutyFor (available s)))
@@ -71,15 +71,15 @@ module _ (s : State) where
       rw (known .1) (known .2)
 
   driven-is : 6000 ≤ available s → DrivenIs s (drivenWave (s .settings .digital) (available s))
-  unfolding drivenWave drivenAllowed driven
+  unfolding drivenWave dutyAllowed driven
   driven-is enough = go (s .settings .digital) refl (sent-greatest enough)
     where
       go : (d : Bool) → s .settings .digital ≡ d → IsGreatest (available s) (sent (dutyFor (available s)))
           → DrivenIs s (cond d fivePercent (sent (dutyFor (available s))))
-      go true p known = record { in-range = ap (λ d. drivenAllowed d fivePercent) p; of-plain = λ plain. clash p plain; of-digital = λ digital. refl }
+      go true p known = record { in-range = ap (λ d. dutyAllowed d fivePercent) p; of-plain = λ plain. clash p plain; of-digital = λ digital. refl }
       go false p known =
           record {
-            in-range = ap (λ d. drivenAllowed d (sent (dutyFor (available s)))) p ∙ inside 100 960 (sent (dutyFor (available s))) (known .least) (known .most);
+            in-range = ap (λ d. dutyAllowed d (sent (dutyFor (available s)))) p ∙ inside 100 960 (sent (dutyFor (available s))) (known .least) (known .most);
             of-plain = λ plain. known;
             of-digital = λ digital. clash digital p;
           }
@@ -115,5 +115,5 @@ module _ (s : State) where
 
       go : (wave : ℕ) → WaveIs wave → waveAllowed (s .settings .digital) wave ≡ true
       go wave (low is fault) = rw is
-      go wave (high is none) = rw is (last (drivenAllowed (s .settings .digital) steadyHigh))
+      go wave (high is none) = rw is (last (dutyAllowed (s .settings .digital) steadyHigh))
       go wave (square is none offer) = rw (is .in-range) (either (eqb wave steadyLow) (eqb wave steadyHigh))

@@ -39,6 +39,10 @@ module _ (s : State) (call : EvaluatedCall) where
   abbrev pub afterEvent : State
   afterEvent = stepEvent (call .time) (call .event) pairAt s
 
+  -- the settled state after step 1
+  abbrev pub settledAt : ℕ
+  settledAt = afterEvent .settled
+
   -- the grant after step 1, which no later step changes
   abbrev pub grantAt : ℕ
   grantAt = afterEvent .grant

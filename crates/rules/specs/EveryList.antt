@@ -5,19 +5,19 @@ use mathlib.Core.List.{List}
 use mathlib.Core.Logic.{_↔_, _⊎_}
 use Prim.Native.Nat.{ℕ, suc, _+_, _≤_, _<_}
 use lib.ListN.{length}
-use Rattle.units.specs.Wave.{fivePercent, drivenIn, steadyLow, steadyHigh}
+use Rattle.units.specs.Wave.{fivePercent, steadyLow, steadyHigh}
 use Rattle.duty.specs.DutyFor.{IsGreatest}
 use Rattle.pilot.specs.Bands.{bandA, bandB, ready}
 use Rattle.rules.specs.Begin.{Begin, pauseFor, fresh}
 use Rattle.rules.specs.Calls.{Call}
 use Rattle.rules.specs.Claim.{leastPause, Demand3}
 use Rattle.rules.specs.Every20.{ClosedIsSound}
+use Rattle.rules.specs.LastGranted.{LastGranted}
 use Rattle.rules.specs.LastMeasured.{LastMeasured}
 use Rattle.rules.specs.Lent.{altered}
 use Rattle.rules.specs.OverCurrent.{OverCurrentExactly, DigitalLowersNone}
 use Rattle.rules.specs.Refusals.{refusal}
-use Rattle.rules.specs.State.{State, anyFault, isDriven}
-use Rattle.rules.specs.Step3Wave.{available}
+use Rattle.rules.specs.State.{State, anyFault, isDriven, available}
 use Rattle.rules.specs.Traces.{before, callAt, lentAt, replyBefore, answered}
 
 -- what is true of every state that a list leads to
@@ -40,7 +40,7 @@ pub record Reached (s : State) : Type 0 where
   -- a stop runs exactly if the contactor is closed and the wave is steady +12 V
   pub stop-exactly : (s .stop .set ≡ true) ↔ ((s .closed ≡ true) × (s .wave ≡ steadyHigh))
   -- so a digital post that is closed with a grant below 6,000 stops its van
-  pub ungranted-stops : s .settings .digital ≡ true → s .closed ≡ true → s .grant < 6000 → (s .wave ≡ steadyHigh) × (s .stop .set ≡ true)
+  pub low-grant-stops : s .settings .digital ≡ true → s .closed ≡ true → s .grant < 6000 → (s .wave ≡ steadyHigh) × (s .stop .set ≡ true)
   -- open: no over-run and no stop
   pub open-no-overrun : s .closed ≡ false → s .overrun .set ≡ false
   pub open-no-stop : s .closed ≡ false → s .stop .set ≡ false
@@ -61,6 +61,8 @@ pub record EveryList (begin : Begin) (calls : List Call) : Type 0 where
   pub waves : (k : ℕ) → k ≤ length calls → replyBefore begin calls k .wave ≡ before begin calls k .wave
   -- the currents that each reply shows are those of the last accepted measure, or 0
   pub lines-are : (k : ℕ) → k ≤ length calls → LastMeasured begin calls k (replyBefore begin calls k .lines)
+  -- the grant that is kept is what the last call set it to that did, or 0
+  pub grants-are : (k : ℕ) → k ≤ length calls → LastGranted begin calls k (before begin calls k .grant)
   -- fault 2 comes exactly with a call that finds the van over its bound for too long
   pub over-current : OverCurrentExactly begin calls
   pub digital-lowers-none : DigitalLowersNone begin calls

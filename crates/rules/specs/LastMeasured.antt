@@ -3,10 +3,11 @@
 use mathlib.Core.Path.{_≡_}
 use mathlib.Core.Bool.{true}
 use mathlib.Core.List.{List}
-use Prim.Native.Nat.{ℕ, suc, _≤_, _<_}
+use Prim.Native.Nat.{ℕ, _<_}
 use lib.ListN.{length, getD}
 use Rattle.rules.specs.Begin.{Begin}
 use Rattle.rules.specs.Calls.{Call, measure}
+use Rattle.rules.specs.LastSet.{LastSet}
 use Rattle.rules.specs.Lines.{Lines, noCurrents}
 use Rattle.rules.specs.Replay.{isAccepted}
 use Rattle.rules.specs.Traces.{noCall, before, callAt}
@@ -18,11 +19,6 @@ module _ (begin : Begin) (calls : List Call) where
     pub brings : getD calls k noCall .event ≡ measure lines
     pub accepted : isAccepted (before begin calls k) (callAt begin calls k) ≡ true
 
-  -- from call j on, up to call k, no measure is accepted
-  abbrev pub NoneFrom : ℕ → ℕ → Type 0
-  NoneFrom j k = (i : ℕ) (lines : Lines) → j ≤ i → i < k → Measures i lines → ⊥
-
   -- these are the currents of the last accepted measure before call k; with none so far, 0 on each line
-  pub data LastMeasured (k : ℕ) (lines : Lines) : Type 0 where
-    by-measure : (j : ℕ) → j < k → Measures j lines → NoneFrom (suc j) k → LastMeasured k lines
-    not-yet : NoneFrom 0 k → lines ≡ noCurrents → LastMeasured k lines
+  abbrev pub LastMeasured : ℕ → Lines → Type 0
+  LastMeasured k lines = LastSet Measures noCurrents k lines

@@ -21,13 +21,13 @@ mostClosings = 1000000001
 abbrev pub countAllowed : ℕ → Bool
 countAllowed closings = leb closings mostClosings
 
--- the driven waves of a post: 5 % of a digital one, 100 to 960 of a plain one
-unfoldable pub drivenAllowed : Bool → ℕ → Bool
-drivenAllowed digital wave = cond digital (eqb wave fivePercent) (driven wave)
+-- the duties that a post of this mark commands: 5 %, or 100 to 960
+unfoldable pub dutyAllowed : Bool → ℕ → Bool
+dutyAllowed digital wave = cond digital (eqb wave fivePercent) (driven wave)
 
 -- the wave's range: 0, 50 and 1000 in a digital post (document 02, e); 0, 100 to 960 and 1000 in a plain one
 unfoldable pub waveAllowed : Bool → ℕ → Bool
-waveAllowed digital wave = eqb wave steadyLow || (drivenAllowed digital wave || eqb wave steadyHigh)
+waveAllowed digital wave = eqb wave steadyLow || (dutyAllowed digital wave || eqb wave steadyHigh)
 
 -- a stored time that is not above the last accepted one; an empty one is no stored time
 unfoldable pub storedAllowed : ℕ → Moment → Bool

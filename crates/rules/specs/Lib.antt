@@ -19,7 +19,9 @@ pub mod PlainPost
 pub mod Claim
 pub mod Traces
 pub mod Every20
+pub mod LastSet
 pub mod LastMeasured
+pub mod LastGranted
 pub mod OverCurrent
 pub mod EveryList
 pub mod RefusalsAre

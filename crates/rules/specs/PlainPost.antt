@@ -1,7 +1,7 @@
 -- Plain posts behave as before (document 02, e): every rule that the mark or the grant has changed, as it is in a plain post, without a word of
 -- either; and in a list to a plain post the link calls change nothing. Proved in proofs/PlainPost.antt.
 use mathlib.Core.Path.{_≡_}
-use mathlib.Core.Bool.{Bool, false, _&&_, _||_, not, cond}
+use mathlib.Core.Bool.{Bool, _&&_, _||_, not, cond}
 use mathlib.Core.List.{List, [], _∷_}
 use Prim.Native.Nat.{ℕ}
 use lib.Dec.{eqb, ltb}
@@ -18,9 +18,9 @@ use Rattle.rules.specs.Lines.{Lines, largest}
 use Rattle.rules.specs.Pairs.{Pair, verdict, bothProven}
 use Rattle.rules.specs.Refusals.{limitAllowed, argumentRefusal}
 use Rattle.rules.specs.Reply.{Reply, letterOf, digit, shown}
-use Rattle.rules.specs.State.{State, Moment, anyFault, empty, setTo, startedBy}
+use Rattle.rules.specs.State.{State, anyFault, empty, setTo, startedBy, available}
 use Rattle.rules.specs.Step1Event.{announced, overrunJudged, overrunBy}
-use Rattle.rules.specs.Step3Wave.{available, noDuty, sent, waveFor, stepWave}
+use Rattle.rules.specs.Step3Wave.{noDuty, sent, waveFor, stepWave}
 use Rattle.rules.specs.Step5Closing.{pauseOver, closes}
 
 -- what each changed rule is in a plain post

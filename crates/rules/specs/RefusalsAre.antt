@@ -15,14 +15,14 @@ use Rattle.rules.specs.Lent.{Lent, mostClosings}
 use Rattle.rules.specs.Lines.{Lines}
 use Rattle.rules.specs.State.{Moment}
 
--- a wave that is not the driven one of a digital post, or not one of a plain post's
-abbrev pub NotDriven : Bool → ℕ → Type 0
-NotDriven true wave = wave ≡ fivePercent → ⊥
-NotDriven false wave = Outside 100 960 wave
+-- a wave that is no duty of a post of this mark
+abbrev pub DutyOut : Bool → ℕ → Type 0
+DutyOut true wave = wave ≡ fivePercent → ⊥
+DutyOut false wave = Outside 100 960 wave
 
--- a wave out of its range: neither steady nor driven
+-- a wave out of its range: neither steady nor such a duty
 abbrev pub WaveOut : Bool → ℕ → Type 0
-WaveOut digital wave = (wave ≡ steadyLow → ⊥) × NotDriven digital wave × (wave ≡ steadyHigh → ⊥)
+WaveOut digital wave = (wave ≡ steadyLow → ⊥) × DutyOut digital wave × (wave ≡ steadyHigh → ⊥)
 
 -- a stored time above the last accepted one
 abbrev pub StoredAbove : ℕ → Moment → Type 0

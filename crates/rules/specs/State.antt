@@ -1,6 +1,7 @@
--- What the replay keeps (document 01, demand 3; the lines: document 02, b; mark and grant: document 02, e), and nothing else. Times are in milliseconds, currents in milliamps.
+-- What the replay keeps (document 01, demand 3; the lines: document 02, b; mark and grant: document 02, e), and nothing else. Times are in milliseconds,
+-- currents in milliamps.
 use mathlib.Core.Bool.{Bool, true, false, _||_, cond}
-use Prim.Native.Nat.{ℕ}
+use Prim.Native.Nat.{ℕ, min}
 use Rattle.units.specs.Range.{ago, longerAgo}
 use Rattle.units.specs.Wave.{drivenIn}
 use Rattle.pilot.specs.declared.verdicts.Verdict.{Verdict}
@@ -106,3 +107,11 @@ pub record State : Type 0 where
 -- the wave is driven
 abbrev pub isDriven : State → Bool
 isDriven s = drivenIn (s .settings .digital) (s .wave)
+
+-- the available current: the lesser of rated and limit
+unfoldable pub available : State → ℕ
+available s = min (s .settings .rated) (s .limit)
+
+-- the least of grant, rated and limit (document 02, e)
+unfoldable pub leastOfThree : State → ℕ
+leastOfThree s = min (s .grant) (available s)

@@ -1,6 +1,6 @@
 -- Step 1 of an accepted call: its event.
 use mathlib.Core.Bool.{Bool, _&&_, _||_, cond}
-use Prim.Native.Nat.{ℕ, _*_, min}
+use Prim.Native.Nat.{ℕ, _*_}
 use lib.Dec.{eqb, ltb}
 use Rattle.pilot.specs.Bands.{bandA}
 use Rattle.duty.specs.Reading.{Reads, noCharging, digitalOnly, current, refused, readingOf}
@@ -8,7 +8,7 @@ use Rattle.window.specs.Evaluation.{Evaluation}
 use Rattle.rules.specs.Calls.{Event, sample, limit, measure, link, fault, clear, tick}
 use Rattle.rules.specs.Lines.{Lines, largest}
 use Rattle.rules.specs.Pairs.{Pair, inOneBand}
-use Rattle.rules.specs.State.{State, Moment, Faults, isDriven, noFaults, empty, setTo, startedBy}
+use Rattle.rules.specs.State.{State, Moment, Faults, isDriven, leastOfThree, noFaults, empty, setTo, startedBy}
 
 -- settling: by a pair in one band
 unfoldable pub settledBy : Pair → ℕ → ℕ
@@ -90,7 +90,7 @@ allowedBy digital least wave = cond digital least (announced wave)
 
 -- the same, of a state as the call finds it
 abbrev pub allowedCurrent : State → ℕ
-allowedCurrent s = allowedBy (s .settings .digital) (min (s .grant) (min (s .settings .rated) (s .limit))) (s .wave)
+allowedCurrent s = allowedBy (s .settings .digital) (leastOfThree s) (s .wave)
 
 -- more than a tenth above what is allowed
 unfoldable pub isOver : ℕ → ℕ → Bool

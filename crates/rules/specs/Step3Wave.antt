@@ -1,12 +1,12 @@
 -- Step 3 of an accepted call: the wave, and what follows from it for the over-run and the stop.
 use mathlib.Core.Bool.{Bool, _&&_, _||_, not, cond}
-use Prim.Native.Nat.{ℕ, min}
+use Prim.Native.Nat.{ℕ}
 use lib.Dec.{eqb, ltb}
 use Rattle.units.specs.Range.{fromTo}
 use Rattle.units.specs.Wave.{fivePercent, drivenIn, steadyLow, steadyHigh}
 use Rattle.pilot.specs.Bands.{bandA, bandD, bandE}
 use Rattle.duty.specs.DutyFor.{Sends, duty, refusal, dutyFor}
-use Rattle.rules.specs.State.{State, Moment, anyFault, empty, setTo, startedBy}
+use Rattle.rules.specs.State.{State, Moment, available, anyFault, empty, setTo, startedBy}
 
 -- a settled state that is one of A to E
 unfoldable pub isSettled : ℕ → Bool
@@ -20,10 +20,6 @@ isUAE settled = not (isSettled settled) || (eqb settled bandA || eqb settled ban
 unfoldable pub unventilatedD : ℕ → Bool → Bool
 unventilatedD settled ventilation = eqb settled bandD && not ventilation
 
--- the lesser of rated and limit
-unfoldable pub available : State → ℕ
-available s = min (s .settings .rated) (s .limit)
-
 -- no duty by the plain rules: less than 6,000 available, or settled U, A or E, or settled D without ventilation
 unfoldable pub noDuty : ℕ → ℕ → Bool → Bool
 noDuty current settled ventilation = ltb current 6000 || (isUAE settled || unventilatedD settled ventilation)
@@ -34,8 +30,8 @@ sent (duty d) = d
 sent (refusal number) = steadyHigh
 
 -- closed with a grant below 6,000, in a digital post: wave 1000 in place of 5 % (document 02, e)
-unfoldable pub ungranted : Bool → Bool → ℕ → Bool
-ungranted digital closed grant = digital && (closed && ltb grant 6000)
+unfoldable pub lowGrant : Bool → Bool → ℕ → Bool
+lowGrant digital closed grant = digital && (closed && ltb grant 6000)
 
 -- the driven wave: 5 % in a digital post wherever a plain one has a duty, which is that for the available current (document 02, e)
 unfoldable pub drivenWave : Bool → ℕ → ℕ
@@ -48,7 +44,7 @@ waveOf faulted held wave = cond faulted steadyLow (cond held steadyHigh wave)
 -- the wave is held at steady +12 V, unless a fault is latched
 unfoldable pub heldHigh : State → Bool
 heldHigh s =
-    noDuty (available s) (s .settled) (s .settings .ventilation) || ungranted (s .settings .digital) (s .closed) (s .grant)
+    noDuty (available s) (s .settled) (s .settings .ventilation) || lowGrant (s .settings .digital) (s .closed) (s .grant)
 
 -- the wave
 unfoldable pub waveFor : State → ℕ

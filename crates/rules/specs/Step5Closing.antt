@@ -10,8 +10,8 @@ unfoldable pub pauseOver : ℕ → State → Bool
 pauseOver time s = neverOrAgo (s .settings .pause) time (s .opening)
 
 -- a grant of at least 6,000, which a digital post needs to close (document 02, e)
-unfoldable pub granted : Bool → ℕ → Bool
-granted digital grant = not digital || leb 6000 grant
+unfoldable pub hasGrant : Bool → ℕ → Bool
+hasGrant digital grant = not digital || leb 6000 grant
 
 -- the closing conditions, all of them: the contactor is open, and this call did not open it; the wave is driven; a digital post has its grant; the
 -- call is a sample and makes a proven pair in one band (`bothProven` asks for both); and the pause is over
@@ -19,7 +19,7 @@ unfoldable pub closes : Bool → ℕ → Pair → State → Bool
 closes opened time pair s =
     not (s .closed)
     && (not opened
-    && (isDriven s && (granted (s .settings .digital) (s .grant) && (bothProven pair && pauseOver time s))))
+    && (isDriven s && (hasGrant (s .settings .digital) (s .grant) && (bothProven pair && pauseOver time s))))
 
 -- closings grows by 1
 unfoldable pub closingsBy : Bool → ℕ → ℕ

@@ -4,7 +4,7 @@ use Prim.Native.Nat.{ℕ}
 use lib.Dec.{eqb}
 use Rattle.units.specs.Range.{fromTo}
 
--- driven: the wave is a square wave
+-- driven in every post: a square wave of 100 to 960
 unfoldable pub driven : ℕ → Bool
 driven wave = fromTo 100 960 wave
 

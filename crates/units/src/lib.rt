@@ -134,7 +134,7 @@ impl Millis {
     }
 }
 
-// The wave command is a square wave of a plain post: 100 to 960.
+// The wave command is driven in every post: 100 to 960.
 pub fn driven(wave: u32) -> bool
     ensures { λ r. ⌜ r ≡ driven wave ⌝ }
 {
@@ -153,7 +153,7 @@ pub fn driven_in(digital: bool, wave: u32) -> bool
     ensures { λ r. ⌜ r ≡ drivenIn digital wave ⌝ }
 {
     let five = is_five_percent(wave);
-    let agreed = conditions::both(digital, five);
+    let digital_five = conditions::both(digital, five);
     let driven = driven(wave);
-    conditions::either(agreed, driven)
+    conditions::either(digital_five, driven)
 }

@@ -9,7 +9,7 @@ use units::conditions;
 ghost use mathlib.Core.Path.{_≡_};
 ghost use mathlib.Core.Bool.{cond};
 ghost use lib.Dec.{eqb};
-ghost use Rattle.units.specs.Wave.{fivePercent, steadyLow, steadyHigh};
+ghost use Rattle.units.specs.Wave.{steadyLow, steadyHigh};
 ghost use Rattle.duty.specs.Answers.{asSends};
 ghost use Rattle.duty.specs.DutyFor.{dutyFor};
 ghost use Rattle.rules.specs.Step3Wave.{isUAE, unventilatedD, noDuty, sent, drivenWave, waveOf, lowersDuty, restarts, overrunUnder, stopUnder};

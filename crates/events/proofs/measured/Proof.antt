@@ -6,7 +6,7 @@ use Rattle.events.proofs.measured.Tie as tie
 
 returns : tie.Need-returns
 unfolding overrunAt
-returns c = rw (c .before .if1 .taken) (c .overrun-at .ensures ∙ rw (c .before .before .largest .ensures))
+returns c = rw (c .before .if1 .taken) (c .overrun-by-allowed .ensures ∙ rw (c .before .before .largest .ensures))
 
 returns-2 : tie.Need-returns-2
 unfolding overrunAt

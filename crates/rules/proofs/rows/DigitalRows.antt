@@ -8,13 +8,16 @@ use Rattle.units.specs.Wave.{driven, drivenIn}
 use Rattle.pilot.specs.Bands.{bandA, bandB, bandC}
 use Rattle.rules.specs.Answer.{begun, lentAfter}
 use Rattle.rules.specs.Begin.{ratedAllowed, pauseAllowed}
-use Rattle.rules.specs.Calls.{Event, limit, measure, link, fault, clear, tick}
-use Rattle.rules.specs.Lent.{Lent, drivenAllowed, waveAllowed, storedAllowed, timesAllowed, inRange, altered, lentRefusal}
+use Rattle.rules.specs.Calls.{Event, limit, measure, link, fault, clear, tick, evaluated, inTurn}
+use Rattle.rules.specs.Lent.{Lent, dutyAllowed, waveAllowed, storedAllowed, timesAllowed, inRange, altered, lentRefusal}
 use Rattle.rules.specs.Lines.{noCurrents, onLine1}
-use Rattle.rules.specs.Refusals.{timeRefusal, limitAllowed, grantAllowed, argumentRefusal}
+use Rattle.rules.specs.PlainPost.{withoutLinks}
+use Rattle.rules.specs.Refusals.{timeRefusal, limitAllowed, grantAllowed, argumentRefusal, refusal}
+use Rattle.rules.specs.Replay.{step, replay}
 use Rattle.rules.specs.Reply.{letterF, letterU, letter, digit, shown}
-use Rattle.rules.specs.State.{noFaults, anyFault, empty, setTo, forgotten}
+use Rattle.rules.specs.State.{Moment, noFaults, anyFault, empty, setTo, forgotten}
 use Rattle.rules.specs.Step3Wave.{isSettled}
+use Rattle.rules.specs.Traces.{answered}
 use Rattle.rules.proofs.rows.RangeRows.{RefusedAll}
 use Rattle.rules.proofs.rows.Sequences.{Levels, LevelCall, Sequence, steadyAt, drivenAt, callOf, call, every, row, showing, at32A, charging, isSquare, allSquare, Tells, AllTell, lentOn, lent-on, tells-by, computed}
 
@@ -156,6 +159,30 @@ grantOutlives =
           ∷ [];
     }
 
+-- a fault keeps no link call out, and the link call drops no fault: the grant is stored under it, for the closings after the clear
+abbrev pub grantUnderFault : Sequence
+grantUnderFault =
+    record {
+      start = digital32A;
+      first = linked 16000;
+      entries =
+          row 50 (fault 3) 0 letterF 0 0 false 3 1
+          ∷ row 55 (link 0) 0 letterF 0 0 false 3 1
+          ∷ row 60 clear 0 letterU 0 1000 false 0 1
+          ∷ row 70 (steadyAt 9000) 0 letterU 0 1000 false 0 1
+          ∷ row 80 (steadyAt 9000) 0 bandB 2 50 false 0 1
+          ∷ row 1050 (drivenAt 6000) 0 bandB 2 50 false 0 1
+          ∷ row 1060 (drivenAt 6000) 0 bandC 2 50 false 0 1
+          ∷ row 1065 (fault 3) 0 letterF 0 0 false 3 1
+          ∷ row 1070 (link 20000) 0 letterF 0 0 false 3 1
+          ∷ row 1075 clear 0 letterU 0 1000 false 0 1
+          ∷ row 1080 (steadyAt 6000) 0 letterU 0 1000 false 0 1
+          ∷ row 1090 (steadyAt 6000) 0 bandC 2 50 false 0 1
+          ∷ row 1100 (drivenAt 6000) 0 bandC 2 50 false 0 1
+          ∷ row 1110 (drivenAt 6000) 0 bandC 2 50 true 0 2
+          ∷ [];
+    }
+
 -- an over-run against the grant, which neither a lower grant nor a lower limit restarts: fault 2 at 5,000
 abbrev pub digitalOverrun : Sequence
 digitalOverrun =
@@ -189,7 +216,7 @@ takenThenUnsettled =
     }
 
 abbrev pub digitalRows : List Sequence
-digitalRows = grantFirst ∷ grantTakenBack ∷ oneStop ∷ linkRefused ∷ linkToPlain ∷ digitalDiode ∷ unplugged ∷ grantOutlives ∷ digitalOverrun ∷ takenThenUnsettled ∷ []
+digitalRows = grantFirst ∷ grantTakenBack ∷ oneStop ∷ linkRefused ∷ linkToPlain ∷ digitalDiode ∷ unplugged ∷ grantOutlives ∷ grantUnderFault ∷ digitalOverrun ∷ takenThenUnsettled ∷ []
 
 -- charging with this grant, then this limit, a measure at 50
 abbrev measuredAt : ℕ → ℕ → ℕ → List LevelCall
@@ -207,9 +234,9 @@ LeastRow =
     × Starts 16000 10000 11000 false × Starts 16000 10000 11001 true
     × Starts 16059 32000 17664 false × Starts 16059 32000 17665 true
 
--- a controller that no list leads to, in range: mark, contactor, settled state, grant, and the start of a stop
-abbrev unreachedWith : Bool → Bool → ℕ → ℕ → ℕ → Lent
-unreachedWith digital closed settled granted wave =
+-- a controller that no list leads to: mark, contactor, settled state, grant, wave and over-run
+abbrev unreachedWith : Bool → Bool → ℕ → ℕ → ℕ → Moment → Lent
+unreachedWith digital closed settled granted wave overrun =
     record {
       state = record {
         settings = record { rated = 80000; pause = 1000; ventilation = false; digital = digital };
@@ -222,7 +249,7 @@ unreachedWith digital closed settled granted wave =
         last = 100;
         sound = setTo 100;
         opening = empty;
-        overrun = empty;
+        overrun = overrun;
         stop = empty;
         previous = forgotten;
         lines = noCurrents;
@@ -232,7 +259,7 @@ unreachedWith digital closed settled granted wave =
 
 -- the grant that is kept after a call at 110
 abbrev pub grantAfter : Bool → ℕ → Event Levels → ℕ
-grantAfter digital settled event = lentAfter (unreachedWith digital false settled 16000 1000) (map callOf (call 110 event ∷ [])) .state .grant
+grantAfter digital settled event = lentAfter (unreachedWith digital false settled 16000 1000 empty) (map callOf (call 110 event ∷ [])) .state .grant
 
 -- A after step 1 takes it, though step 2 unsettles, and in a plain post too; another state leaves it, whatever the call
 abbrev pub GrantRow : Type 0
@@ -241,9 +268,29 @@ GrantRow =
     × (grantAfter true bandB (fault 3) ≡ 16000) × (grantAfter true bandB (limit 0) ≡ 16000) × (grantAfter true bandB (measure (onLine1 20000)) ≡ 16000)
     × (grantAfter true bandB clear ≡ 16000) × (grantAfter true bandB (link 20000) ≡ 20000) × (grantAfter false bandB tick ≡ 16000)
 
+-- closed with A settled, 5 %, and an over-run since 100 that would latch at 5,100
+abbrev inA : Lent
+inA = unreachedWith true true bandA 16000 50 (setTo 100)
+
+-- a measure is judged by the grant that it finds, which A takes afterwards: 17,600 ends the over-run, so nothing latches
+abbrev pub FoundRow : Type 0
+FoundRow =
+    let after = lentAfter inA (map callOf (call 5100 (measure (onLine1 17600)) ∷ [])) .state in
+    (after .faults .overcurrent ≡ false) × (after .grant ≡ 0)
+
+-- the claim speaks of begin's mark, and of the grant after a call's step 1
+abbrev pub TraceRow : Type 0
+TraceRow =
+    let trace = answered (record { time = 0; rated = 32000; pause = 1000; ventilation = false; digital = true }) (map callOf (call 0 (link 16000) ∷ call 5 tick ∷ [])) in
+    (trace .digital ≡ true) × (trace .grant 0 ≡ 16000) × (trace .grant 1 ≡ 16000)
+
+-- what is left of a list without its link calls
+abbrev pub LinksRow : Type 0
+LinksRow = withoutLinks (map callOf (call 0 tick ∷ call 1 (link 0) ∷ call 2 clear ∷ call 3 (link 6000) ∷ [])) ≡ map callOf (call 0 tick ∷ call 2 clear ∷ [])
+
 -- of a lent controller: mark, wave and grant
 abbrev marked : Bool → ℕ → ℕ → Lent
-marked digital wave granted = unreachedWith digital false bandB granted wave
+marked digital wave granted = unreachedWith digital false bandB granted wave empty
 
 -- in range: a limit of 80,001 is refused with 7
 abbrev pub markedInside : List Lent
@@ -280,16 +327,16 @@ refusals : Tells linkRefused × Tells linkToPlain × Tells digitalDiode
 unfolding computed
 refusals = (tells-by linkRefused _ refl refl refl refl, tells-by linkToPlain _ refl refl refl refl, tells-by digitalDiode _ refl refl refl refl)
 
-resets : Tells unplugged × Tells grantOutlives
+resets : Tells unplugged × Tells grantOutlives × Tells grantUnderFault
 unfolding computed
-resets = (tells-by unplugged _ refl refl refl refl, tells-by grantOutlives _ refl refl refl refl)
+resets = (tells-by unplugged _ refl refl refl refl, tells-by grantOutlives _ refl refl refl refl, tells-by grantUnderFault _ refl refl refl refl)
 
 overruns : Tells digitalOverrun × Tells takenThenUnsettled
 unfolding computed
 overruns = (tells-by digitalOverrun _ refl refl refl refl, tells-by takenThenUnsettled _ refl refl refl refl)
 
 pub digital-rows : AllTell digitalRows
-digital-rows = (grants .0, (grants .1, (grants .2, (refusals .0, (refusals .1, (refusals .2, (resets .0, (resets .1, (overruns .0, (overruns .1, tt))))))))))
+digital-rows = (grants .0, (grants .1, (grants .2, (refusals .0, (refusals .1, (refusals .2, (resets .0, (resets .1, (resets .2, (overruns .0, (overruns .1, tt)))))))))))
 
 starts : (granted depot line : ℕ) (over : Bool) → allSquare (measuredAt granted depot line) ≡ true
     → lentOn digital32A (measuredAt granted depot line) .state .overrun .set ≡ over → Starts granted depot line over
@@ -309,9 +356,9 @@ least-row = (
 )
 
 stays : (digital : Bool) (settled : ℕ) (event : Event Levels) → isSquare event ≡ true
-    → grantAfter digital settled event ≡ computed (unreachedWith digital false settled 16000 1000) (call 110 event ∷ []) .state .grant
+    → grantAfter digital settled event ≡ computed (unreachedWith digital false settled 16000 1000 empty) (call 110 event ∷ []) .state .grant
 unfolding computed
-stays digital settled event right = ap (λ l. l .state .grant) (lent-on (unreachedWith digital false settled 16000 1000) (call 110 event ∷ []) (rw right))
+stays digital settled event right = ap (λ l. l .state .grant) (lent-on (unreachedWith digital false settled 16000 1000 empty) (call 110 event ∷ []) (rw right))
 
 pub grant-row : GrantRow
 unfolding computed
@@ -328,8 +375,22 @@ grant-row = (
   stays false bandB tick refl,
 )
 
+pub found-row : FoundRow
+unfolding computed
+found-row =
+    let is = lent-on inA (call 5100 (measure (onLine1 17600)) ∷ []) refl in
+    (ap (λ l. l .state .faults .overcurrent) is, ap (λ l. l .state .grant) is)
+
+pub trace-row : TraceRow
+unfolding computed inTurn replay step refusal evaluated
+trace-row = (refl, refl, refl)
+
+pub links-row : LinksRow
+unfolding withoutLinks
+links-row = refl
+
 pub marked-rows : MarkedRowsHold
-unfolding fromTo driven ratedAllowed pauseAllowed drivenAllowed waveAllowed storedAllowed timesAllowed inRange altered lentRefusal timeRefusal limitAllowed grantAllowed argumentRefusal
+unfolding fromTo driven ratedAllowed pauseAllowed dutyAllowed waveAllowed storedAllowed timesAllowed inRange altered lentRefusal timeRefusal limitAllowed grantAllowed argumentRefusal
 marked-rows = (refl, refl)
 
 pub digit-row : DigitRow

@@ -6,7 +6,7 @@ use Prim.Native.Nat.{ℕ}
 use Rattle.pilot.specs.Bands.{bandB, bandC}
 use Rattle.rules.specs.Answer.{answerToBegin}
 use Rattle.rules.specs.Begin.{Begin, beginRefusal}
-use Rattle.rules.specs.Calls.{limit, measure, link, fault, clear, tick}
+use Rattle.rules.specs.Calls.{limit, measure, fault, clear, tick}
 use Rattle.rules.specs.Lent.{Lent}
 use Rattle.rules.specs.Lines.{noCurrents, onLine1}
 use Rattle.rules.specs.Reply.{letterF, letterU}

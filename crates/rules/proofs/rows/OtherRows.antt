@@ -4,7 +4,7 @@ use mathlib.Core.List.{List, [], _∷_, _++_}
 use mathlib.Core.Path.{refl}
 use Prim.Native.Nat.{ℕ}
 use Rattle.pilot.specs.Bands.{bandA, bandB, bandC, bandD, bandE}
-use Rattle.rules.specs.Calls.{limit, measure, link, fault, clear, tick}
+use Rattle.rules.specs.Calls.{limit, measure, fault, clear, tick}
 use Rattle.rules.specs.Lent.{Lent}
 use Rattle.rules.specs.Lines.{noCurrents, onLine1}
 use Rattle.rules.specs.Reply.{letterF, letterU}

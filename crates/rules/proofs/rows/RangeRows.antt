@@ -8,7 +8,7 @@ use Rattle.units.specs.Wave.{driven}
 use Rattle.window.specs.Evaluation.{refused}
 use Rattle.rules.specs.Begin.{beginRefusal, ratedAllowed, pauseAllowed}
 use Rattle.rules.specs.Calls.{sample, limit}
-use Rattle.rules.specs.Lent.{Lent, lentRefusal, drivenAllowed, waveAllowed, storedAllowed, timesAllowed, inRange, altered}
+use Rattle.rules.specs.Lent.{Lent, lentRefusal, dutyAllowed, waveAllowed, storedAllowed, timesAllowed, inRange, altered}
 use Rattle.rules.specs.Lines.{Lines}
 use Rattle.rules.specs.State.{Moment, noFaults, empty, setTo, forgotten}
 use Rattle.rules.specs.Refusals.{timeRefusal, limitAllowed, grantAllowed, argumentRefusal}
@@ -126,9 +126,9 @@ unfolding fromTo ratedAllowed pauseAllowed beginRefusal
 begin-rows = refl
 
 pub lent-rows : LentRowsHold
-unfolding fromTo driven ratedAllowed pauseAllowed drivenAllowed waveAllowed storedAllowed timesAllowed inRange altered lentRefusal timeRefusal limitAllowed grantAllowed argumentRefusal
+unfolding fromTo driven ratedAllowed pauseAllowed dutyAllowed waveAllowed storedAllowed timesAllowed inRange altered lentRefusal timeRefusal limitAllowed grantAllowed argumentRefusal
 lent-rows = (refl, refl, refl, refl)
 
 pub window-row : WindowRow
-unfolding fromTo driven ratedAllowed pauseAllowed drivenAllowed waveAllowed storedAllowed timesAllowed inRange altered lentRefusal timeRefusal limitAllowed grantAllowed argumentRefusal
+unfolding fromTo driven ratedAllowed pauseAllowed dutyAllowed waveAllowed storedAllowed timesAllowed inRange altered lentRefusal timeRefusal limitAllowed grantAllowed argumentRefusal
 window-row = refl

@@ -1,5 +1,5 @@
 -- It is the definition.
-use Rattle.rules.specs.Step3Wave.{available}
+use Rattle.rules.specs.State.{available}
 use Rattle.controller.proofs.Controller.available.Statement.{statement}
 use Rattle.controller.proofs.Controller.available.Tie as tie
 

@@ -8,7 +8,7 @@ returns : tie.Need-returns
 unfolding closes pauseOver
 returns c =
     let met = c .before .before in
-    c .all2 .ensures ∙ rw (met .both .ensures, met .before .all .ensures, met .before .before .none-or-at-least-ago .ensures, met .before .before .before .both-proven .ensures, met .before .before .before .before .granted .ensures, met .before .before .before .before .before .is-driven .ensures)
+    c .all2 .ensures ∙ rw (met .both .ensures, met .before .all .ensures, met .before .before .none-or-at-least-ago .ensures, met .before .before .before .both-proven .ensures, met .before .before .before .before .has-grant .ensures, met .before .before .before .before .before .is-driven .ensures)
 
 pub closes-spec : {M : Type 1} → statement M
 closes-spec = tie.close (tie.spec (λ c κs. tt) (λ c κs. tt) (λ c κs. tt) (λ c κs. tt) (λ c κs. tt) (λ c κs. tt) (λ c κs. tt) returns)

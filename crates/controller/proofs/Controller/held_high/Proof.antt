@@ -6,7 +6,7 @@ use Rattle.controller.proofs.Controller.held_high.Tie as tie
 
 returns : tie.Need-returns
 unfolding heldHigh
-returns c = c .either .ensures ∙ rw (c .before .ungranted .ensures, c .before .before .no-duty .ensures, c .before .before .before .available .ensures)
+returns c = c .either .ensures ∙ rw (c .before .low-grant .ensures, c .before .before .no-duty .ensures, c .before .before .before .available .ensures)
 
 pub held-high-spec : {M : Type 1} → statement M
 held-high-spec = tie.close (tie.spec (λ c κs. tt) (λ c κs. tt) (λ c κs. tt) (λ c κs. tt) returns)
