@@ -67,6 +67,21 @@ grantTakenBack =
           ∷ [];
     }
 
+-- the next sample after such an opening is judged under 1000, so it takes two more to close
+abbrev pub provenAfresh : Sequence
+provenAfresh =
+    record {
+      start = digital32A;
+      first = linked 16000 ++ (call 50 (link 0) ∷ every 38 80 60 (steadyAt 6000));
+      entries =
+          row 3050 tick 0 bandC 1 1000 false 0 1
+          ∷ row 4050 (drivenAt 6000) 0 bandC 2 50 false 0 1
+          ∷ row 4051 (link 6000) 0 bandC 2 50 false 0 1
+          ∷ row 4060 (drivenAt 6000) 0 bandC 2 50 false 0 1
+          ∷ row 4070 (drivenAt 6000) 0 bandC 2 50 true 0 2
+          ∷ [];
+    }
+
 -- limit and grant, one stop for both: limit 0 at 50, grant 0 at 1,050, limit back at 2,050
 abbrev pub oneStop : Sequence
 oneStop =
@@ -216,7 +231,7 @@ takenThenUnsettled =
     }
 
 abbrev pub digitalRows : List Sequence
-digitalRows = grantFirst ∷ grantTakenBack ∷ oneStop ∷ linkRefused ∷ linkToPlain ∷ digitalDiode ∷ unplugged ∷ grantOutlives ∷ grantUnderFault ∷ digitalOverrun ∷ takenThenUnsettled ∷ []
+digitalRows = grantFirst ∷ grantTakenBack ∷ provenAfresh ∷ oneStop ∷ linkRefused ∷ linkToPlain ∷ digitalDiode ∷ unplugged ∷ grantOutlives ∷ grantUnderFault ∷ digitalOverrun ∷ takenThenUnsettled ∷ []
 
 -- charging with this grant, then this limit, a measure at 50
 abbrev measuredAt : ℕ → ℕ → ℕ → List LevelCall
@@ -319,9 +334,14 @@ DigitRow =
     map (λ lent. shown 0 lent .digit) (marked true 50 0 ∷ marked false 50 0 ∷ marked true 533 0 ∷ marked false 533 0 ∷ marked true 51 0 ∷ marked true 1000 0 ∷ [])
     ≡ 2 ∷ 1 ∷ 2 ∷ 2 ∷ 1 ∷ 1 ∷ []
 
-grants : Tells grantFirst × Tells grantTakenBack × Tells oneStop
+grants : Tells grantFirst × Tells grantTakenBack × Tells provenAfresh × Tells oneStop
 unfolding computed
-grants = (tells-by grantFirst _ refl refl refl refl, tells-by grantTakenBack _ refl refl refl refl, tells-by oneStop _ refl refl refl refl)
+grants = (
+  tells-by grantFirst _ refl refl refl refl,
+  tells-by grantTakenBack _ refl refl refl refl,
+  tells-by provenAfresh _ refl refl refl refl,
+  tells-by oneStop _ refl refl refl refl,
+)
 
 refusals : Tells linkRefused × Tells linkToPlain × Tells digitalDiode
 unfolding computed
@@ -336,7 +356,7 @@ unfolding computed
 overruns = (tells-by digitalOverrun _ refl refl refl refl, tells-by takenThenUnsettled _ refl refl refl refl)
 
 pub digital-rows : AllTell digitalRows
-digital-rows = (grants .0, (grants .1, (grants .2, (refusals .0, (refusals .1, (refusals .2, (resets .0, (resets .1, (resets .2, (overruns .0, (overruns .1, tt)))))))))))
+digital-rows = (grants .0, (grants .1, (grants .2, (grants .3, (refusals .0, (refusals .1, (refusals .2, (resets .0, (resets .1, (resets .2, (overruns .0, (overruns .1, tt))))))))))))
 
 starts : (granted depot line : ℕ) (over : Bool) → allSquare (measuredAt granted depot line) ≡ true
     → lentOn digital32A (measuredAt granted depot line) .state .overrun .set ≡ over → Starts granted depot line over
