@@ -5,7 +5,7 @@
  * then the controller is as it was. Nothing is allocated, nothing is kept elsewhere, nothing blocks. A
  * sample makes n * n comparisons of n readings at the most, of eight instructions each: 8.4 million
  * instructions for 1,024 readings of which none is supported, 0.5 million for 256. The other calls on a
- * controller take about 700 instructions, a measure up to 760.
+ * controller take about 760 instructions, a measure up to 820.
  *
  *     struct chuldariin_controller post = {0};
  *     struct chuldariin_reply r = chuldariin_begin(&post, now_ms, 32000, 0, false, false);

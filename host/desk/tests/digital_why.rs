@@ -1,27 +1,11 @@
 //! What `why` tells of a digital post.
 
-use tool::{answer, line, CHARGE};
+use tool::{line, says, waits, why, CHARGE};
 
 mod tool;
 
 /// C2 at 40, without a grant.
 const READY: &str = "begin 0 32000 3000 no digital\nlimit 0 32000\nsample 10 9000 9000\nsample 20 9000 9000\nsample 30 6000 -12000\nsample 40 6000 -12000\n";
-
-fn why(log: &str, at: &str) -> String {
-    answer(&["why", "-", "--at", at], log)
-}
-
-/// A condition's yes or no, and what is behind it.
-fn says(answer: &str, condition: &str, words: &str) {
-    let line = line(answer, condition);
-    assert_eq!(line.split_at(27).1.trim(), words, "{answer}");
-}
-
-/// The last line.
-fn waits(answer: &str, words: &str) {
-    let last = format!("The contactor waits for {words}.");
-    assert_eq!(answer.lines().last(), Some(last.as_str()));
-}
 
 #[test]
 fn the_grant_is_a_condition() {

@@ -1,24 +1,8 @@
 //! What `why` tells of each closing condition.
 
-use tool::{answer, line, run, text, CHARGE, PLUGGED};
+use tool::{line, run, says, text, waits, why, CHARGE, PLUGGED};
 
 mod tool;
-
-fn why(log: &str, at: &str) -> String {
-    answer(&["why", "-", "--at", at], log)
-}
-
-/// A condition's yes or no, and what is behind it.
-fn says(answer: &str, condition: &str, words: &str) {
-    let line = line(answer, condition);
-    assert_eq!(line.split_at(27).1.trim(), words, "{answer}");
-}
-
-/// The last line.
-fn waits(answer: &str, words: &str) {
-    let last = format!("The contactor waits for {words}.");
-    assert_eq!(answer.lines().last(), Some(last.as_str()));
-}
 
 #[test]
 fn after_begin() {

@@ -22,6 +22,7 @@
 //! | `tally` | how often everything that should occur did |
 //! | `tally_duty` | the same of a changed duty and an over-run |
 //! | `tally_link` | the same of a grant, or the want of one |
+//! | `tally_stops` | the same of a stop, and of an over-run of a digital post |
 //! | `edges` | levels, numbers and times at the ends of their ranges |
 //! | `windows` | windows of readings, clean and irregular |
 //! | `author` | makes up calls by what the controller is doing |
@@ -47,6 +48,7 @@ pub mod styles;
 pub mod tally;
 pub mod tally_duty;
 pub mod tally_link;
+pub mod tally_stops;
 pub mod trial;
 pub mod wild;
 pub mod windows;

@@ -8,6 +8,7 @@ use chuldariin_trials::tally::{
 };
 use chuldariin_trials::tally_duty::RESTARTS;
 use chuldariin_trials::tally_link::*;
+use chuldariin_trials::tally_stops::*;
 
 /// The calls that every post accepts.
 const WORDS: [&str; 7] = [

@@ -48,3 +48,20 @@ pub fn line<'a>(answer: &'a str, start: &str) -> &'a str {
     let found = lines.find(|line| line.trim_start().starts_with(start));
     found.unwrap_or_else(|| panic!("{start}\n{answer}"))
 }
+
+/// What `why` answers at a time of this log.
+pub fn why(log: &str, at: &str) -> String {
+    answer(&["why", "-", "--at", at], log)
+}
+
+/// A condition's yes or no in it, and what is behind it.
+pub fn says(answer: &str, condition: &str, words: &str) {
+    let line = line(answer, condition);
+    assert_eq!(line.split_at(27).1.trim(), words, "{answer}");
+}
+
+/// The last line of what `why` answers.
+pub fn waits(answer: &str, words: &str) {
+    let last = format!("The contactor waits for {words}.");
+    assert_eq!(answer.lines().last(), Some(last.as_str()));
+}

@@ -3,6 +3,8 @@
 // Not every test file wants all of it.
 #![allow(dead_code)]
 
+pub mod linked;
+
 use chuldariin_model::*;
 
 pub const MAX_TIME: u64 = 1_000_000_000_000;
