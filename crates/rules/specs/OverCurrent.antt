@@ -1,5 +1,5 @@
--- When fault 2 comes in a list (document 01, steps 1 and 2; document 02, c): exactly with a call that finds the van over its bound for 5,000 or longer,
--- and that comes 5,000 or longer after every lowered duty. Proved in proofs/OverCurrent.antt.
+-- When fault 2 comes in a list (document 01, steps 1 and 2; document 02, c, and e for a digital post's bound): exactly with a call that finds the van
+-- over its bound for 5,000 or longer, and that comes 5,000 or longer after every lowered duty. Proved in proofs/OverCurrent.antt.
 use mathlib.Core.Path.{_≡_}
 use mathlib.Core.Bool.{true, false}
 use mathlib.Core.List.{List}
