@@ -34,23 +34,26 @@ module _ (begin : Begin) (calls : List Call) where
     -- accepted, and A is not settled after step 1: only a link call sets the grant
     turn-else : isAccepted s call ≡ true → (InA begin calls k → ⊥) → Turn (SetsGrant begin calls) 0 kept k
     unfolding grantStored evaluated
-    turn-else into not-a = go (getD calls k noCall .event) refl (ap (λ x. x .grant) (accepted-is begin calls k below into) ∙ kept-else (call .event) (settledAt s call) (s .grant) not-a)
+    turn-else into not-a = go (getD calls k noCall .event) refl
       where
+        after : (event : Event (List ℤ)) → getD calls k noCall .event ≡ event → kept (suc k) ≡ grantStored (evaluated event) (kept k)
+        after event is =
+            ap (λ x. x .grant) (accepted-is begin calls k below into)
+            ∙ kept-else (call .event) (settledAt s call) (s .grant) not-a
+            ∙ ap (λ e. grantStored (evaluated e) (s .grant)) is
+
         other : (event : Event (List ℤ)) → getD calls k noCall .event ≡ event → isLink event ≡ false → (grant : ℕ) → SetsGrant begin calls k grant → ⊥
         other event is kind grant (in-a accepts settled none) = not-a settled
         other event is kind grant (by-link accepts elsewhere told) = clash (ap isLink (sym is ∙ told)) kind
 
-        go : (event : Event (List ℤ)) → getD calls k noCall .event ≡ event → kept (suc k) ≡ grantStored (call .event) (s .grant)
-            → Turn (SetsGrant begin calls) 0 kept k
-        go (link granted) is same =
-            let told = same ∙ ap (λ event. grantStored (evaluated event) (s .grant)) is in
-            sets (by-link (below, into) not-a (is ∙ ap link (sym told)))
-        go (sample window) is same = leaves (same ∙ ap (λ event. grantStored (evaluated event) (s .grant)) is) (other (sample window) is refl)
-        go (limit current) is same = leaves (same ∙ ap (λ event. grantStored (evaluated event) (s .grant)) is) (other (limit current) is refl)
-        go (measure lines) is same = leaves (same ∙ ap (λ event. grantStored (evaluated event) (s .grant)) is) (other (measure lines) is refl)
-        go (fault kind) is same = leaves (same ∙ ap (λ event. grantStored (evaluated event) (s .grant)) is) (other (fault kind) is refl)
-        go clear is same = leaves (same ∙ ap (λ event. grantStored (evaluated event) (s .grant)) is) (other clear is refl)
-        go tick is same = leaves (same ∙ ap (λ event. grantStored (evaluated event) (s .grant)) is) (other tick is refl)
+        go : (event : Event (List ℤ)) → getD calls k noCall .event ≡ event → Turn (SetsGrant begin calls) 0 kept k
+        go (link granted) is = sets (by-link (below, into) not-a (is ∙ ap link (sym (after (link granted) is))))
+        go (sample window) is = leaves (after (sample window) is) (other (sample window) is refl)
+        go (limit current) is = leaves (after (limit current) is) (other (limit current) is refl)
+        go (measure lines) is = leaves (after (measure lines) is) (other (measure lines) is refl)
+        go (fault kind) is = leaves (after (fault kind) is) (other (fault kind) is refl)
+        go clear is = leaves (after clear is) (other clear is refl)
+        go tick is = leaves (after tick is) (other tick is refl)
 
     turn : Turn (SetsGrant begin calls) 0 kept k
     turn = go (isAccepted s call) refl (ℕ-discrete (settledAt s call) bandA)

@@ -12,7 +12,7 @@ module _ {A : Type 0} (Sets : ℕ → A → Type 0) (first : A) where
     leaves : value (suc k) ≡ value k → ((x : A) → Sets k x → ⊥) → Turn value k
 
   -- one call more that sets none
-  quiet-here : (j k : ℕ) → ((x : A) → Sets k x → ⊥) → NoneFrom Sets first j k → NoneFrom Sets first j (suc k)
+  quiet-here : (j k : ℕ) → ((x : A) → Sets k x → ⊥) → NoneFrom Sets j k → NoneFrom Sets j (suc k)
   quiet-here j k none quiet i x from before set = by (decLt i k)
     where
       by : Dec (i < k) → ⊥
