@@ -2,9 +2,9 @@
 use mathlib.Core.Path.{_≡_, refl, sym, _∙_, ap}
 use mathlib.Core.Bool.{Bool, true, false, _&&_, _||_, not, cond}
 use Prim.Native.Nat.{ℕ, _≤_}
-use native.Mathlib.Decide.{ℕ-discrete}
 use native.Mathlib.Omega.{arith}
-use borrow.Author.Tests.{ltb-false, ne-eqb}
+use lib.Dec.{eqb}
+use borrow.Author.Tests.{eqb-true, eqb-false, ltb-false, ne-eqb}
 use Rattle.pilot.specs.Bands.{bandA}
 use Rattle.window.specs.Evaluation.{Evaluation}
 use Rattle.rules.specs.Accepted.{settledAt, unsettlesAt, causeAt, closesAt, accept}
@@ -35,6 +35,14 @@ not-low : (digital closed : Bool) (grant : ℕ) → digital ≡ true → closed 
 unfolding lowGrant
 not-low digital closed grant is-digital is-closed e = ltb-false grant 6000 (rw (is-digital, is-closed) at e)
 
+-- A is settled, or it is not
+pub is-a : (settled : ℕ) → Dec (settled ≡ bandA)
+is-a settled = go (eqb settled bandA) refl
+  where
+    go : (b : Bool) → eqb settled bandA ≡ b → Dec (settled ≡ bandA)
+    go true p = yes (eqb-true settled bandA p)
+    go false p = no (eqb-false settled bandA p)
+
 module _ (event : Event Evaluation) (settled stored : ℕ) where
   pub taken-in-a : settled ≡ bandA → grantBy event settled stored ≡ 0
   unfolding grantBy
@@ -53,7 +61,7 @@ module _ (s : State) (call : EvaluatedCall) where
       go false e = e
 
   pub none-in-plain : isAccepted s call ≡ true → (s .settings .digital ≡ false → s .grant ≡ 0) → s .settings .digital ≡ false → accept s call .grant ≡ 0
-  none-in-plain into before plain = go (ℕ-discrete (settledAt s call) bandA)
+  none-in-plain into before plain = go (is-a (settledAt s call))
     where
       right : argumentRefusal false (call .event) ≡ 0
       right = ap (λ d. argumentRefusal d (call .event)) (sym plain) ∙ arguments-right s call into

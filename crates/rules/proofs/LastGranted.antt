@@ -3,7 +3,6 @@ use mathlib.Core.Path.{_≡_, refl, sym, _∙_, ap}
 use mathlib.Core.Bool.{Bool, true, false}
 use mathlib.Core.List.{List}
 use Prim.Native.Nat.{ℕ, suc, _≤_, _<_}
-use native.Mathlib.Decide.{ℕ-discrete}
 use lib.IntN.{ℤ}
 use lib.ListN.{length, getD}
 use Rattle.pilot.specs.Bands.{bandA}
@@ -16,7 +15,7 @@ use Rattle.rules.specs.State.{State}
 use Rattle.rules.specs.Step1Event.{grantStored}
 use Rattle.rules.specs.Traces.{noCall, before, callAt}
 use Rattle.rules.proofs.Booleans.{clash}
-use Rattle.rules.proofs.Grants.{taken-in-a, kept-else}
+use Rattle.rules.proofs.Grants.{is-a, taken-in-a, kept-else}
 use Rattle.rules.proofs.LastSet.{Turn, sets, leaves, last-set, last-fixes}
 use Rattle.rules.proofs.Stepped.{accepted-is, refused-is}
 
@@ -56,7 +55,7 @@ module _ (begin : Begin) (calls : List Call) where
         go tick is = leaves (after tick is) (other tick is refl)
 
     turn : Turn (SetsGrant begin calls) 0 kept k
-    turn = go (isAccepted s call) refl (ℕ-discrete (settledAt s call) bandA)
+    turn = go (isAccepted s call) refl (is-a (settledAt s call))
       where
         refused : isAccepted s call ≡ false → (grant : ℕ) → SetsGrant begin calls k grant → ⊥
         refused out grant (in-a accepts settled none) = clash (accepts .1) out
