@@ -135,7 +135,7 @@ fn a_digital_post_closes_with_its_grant_and_stops_without() {
     let (mut post, _) = Post::begin(begin).expect("the settings are in range");
     post.limit(Millis(0), Milliamps(32_000))
         .expect("a limit in range");
-    let mut sample = |post: &mut Post, time, high, low| {
+    let sample = |post: &mut Post, time, high, low| {
         let reply = post.sample(Millis(time), &window(high, low));
         reply.map(|reply| (reply.state.to_string(), reply.wave, reply.closed))
     };
