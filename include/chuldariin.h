@@ -184,15 +184,15 @@ struct chuldariin_controller {
 /* What a call tells. Beside refusals 1 to 8, 11 and 12 stands the rest as the controller has it; a refused
  * begin has zeros there.
  * It has 28 bytes, so a call returns it in memory, at an address that the caller passes first and C
- * hides. The 16 bytes of a version without `lines` came back in two registers: a host that was compiled
- * with such a header has to be compiled again, and a controller that it wrote is not to be lent to this
- * version: begin anew. */
+ * hides; the 16 bytes of a version without `lines` came back in two registers. A host that was compiled
+ * with any earlier header has to be compiled again: begin has a parameter more, and the controller's fields
+ * stand at other offsets. A controller that it wrote is not to be lent to this version: begin anew. */
 struct chuldariin_reply {
     uint8_t refusal;   /* 0 if accepted, else CHULDARIIN_REFUSED_... */
     uint8_t letter;    /* the state: 'A' to 'E', 'U' unsettled, 'F' a fault is latched */
     uint8_t digit;     /* 2 under a square wave, 1 under a steady one; U, E and F have none: 0 */
-    uint32_t wave;     /* 0 steady -12 V, 1000 steady +12 V, else a duty, tenths of a percent: 100 to 960,
-                        * and 50 in a digital post */
+    uint32_t wave;     /* 0 steady -12 V, 1000 steady +12 V, else a duty, tenths of a percent: 100 to 960
+                        * in a plain post, 50 in a digital one */
     bool closed;       /* the contactor command */
     uint8_t fault;     /* 0, or a latched fault */
     uint32_t closings; /* how often the contactor has closed since begin */
@@ -257,7 +257,8 @@ struct chuldariin_reply chuldariin_begin(struct chuldariin_controller *c, uint64
 
 /* A window of 256 to 1,024 readings of the pilot line, -15,000 to 15,000 mV, only read. It is judged
  * under the wave that was commanded before this call, so all its readings come after that command. It
- * spans whole periods of the wave, and shares no reading with another window. After 4, 5 or 6: tick.
+ * spans whole periods of the wave, and shares no reading with another window. At the 5 % of a digital
+ * post 8 readings or more have to lie in the 50 us of each period that are high. After 4, 5 or 6: tick.
  * Refused: 3, 2, 1, 4, 5, 6. */
 struct chuldariin_reply chuldariin_sample(struct chuldariin_controller *c, uint64_t time,
                                           const int32_t *readings, size_t count);
@@ -286,7 +287,8 @@ struct chuldariin_reply chuldariin_measure(struct chuldariin_controller *c, uint
  * closes with a grant of 6,000 or more. Closed with less it tells wave 1000, and opens once that has
  * lasted 3 s; give the grant back before, and it charges on. With A settled every call, this one too, sets
  * the grant to 0 and is accepted: tell the grant after a reply has told B (or C or D). Nothing else takes
- * it away but begin, not a fault, an opening or a clear: a host that loses the link calls this with 0.
+ * it away but begin, not a fault, an opening or a clear. So call this with 0 when the link is lost, and
+ * whenever the van may have changed without A being told, as under a fault: before the clear.
  * Refused: 3, 2, 1, 12, 11. */
 struct chuldariin_reply chuldariin_link(struct chuldariin_controller *c, uint64_t time, uint32_t granted);
 

@@ -145,7 +145,7 @@ impl Post {
     }
 
     /// The depot's limit, 0 to 80,000 mA. If it lowers the duty, a running over-run restarts: the van has
-    /// 5 s to follow.
+    /// 5 s to follow. In a digital post the wave tells the van of no limit: agree less over the link first.
     pub fn limit(&mut self, time: Millis, current: Milliamps) -> Result<Reply, Refusal> {
         // SAFETY: as in begin_again.
         reply::accepted(unsafe { raw::chuldariin_limit(&mut self.controller, time.0, current.0) })
@@ -172,7 +172,8 @@ impl Post {
 
     /// The current that was agreed over the digital link, 0 to 80,000 mA; a plain post refuses it. A digital
     /// post closes with 6,000 or more, and stops its van while it is closed with less. With A settled the
-    /// grant is 0, so it is told after B was.
+    /// grant is 0, so it is told after B was. Nothing else takes it away but begin: tell 0 when the link is
+    /// lost, and whenever the van may have changed without A being told, as under a fault: before the clear.
     pub fn link(&mut self, time: Millis, granted: Milliamps) -> Result<Reply, Refusal> {
         // SAFETY: as in begin_again.
         reply::accepted(unsafe { raw::chuldariin_link(&mut self.controller, time.0, granted.0) })

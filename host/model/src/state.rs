@@ -78,6 +78,11 @@ impl State {
         driven(self.digital, self.wave)
     }
 
+    /// The least of grant, rated and limit, mA.
+    pub fn least(&self) -> u32 {
+        self.grant.min(self.rated).min(self.limit)
+    }
+
     /// Current that a measure on this state is judged against, mA: it may carry a
     /// tenth more. `None` if a measure is not judged at all.
     pub fn allowed(&self) -> Option<u32> {
@@ -85,7 +90,7 @@ impl State {
             return None;
         }
         if self.digital {
-            return Some(self.grant.min(self.rated).min(self.limit));
+            return Some(self.least());
         }
         match reading(self.wave) {
             Ok(Reading::Current(announced)) => Some(announced),

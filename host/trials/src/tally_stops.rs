@@ -83,7 +83,7 @@ impl Tally {
     pub(crate) fn see_want(&mut self, seen: &Seen) {
         let (before, after) = (&seen.before, &seen.after);
         let again = self.since.opened && after.wave == 50;
-        let ungranted = before.stop.is_some() && why(before) == Some(Why::Grant);
+        let for_the_grant = before.stop.is_some() && why(before) == Some(Why::Grant);
         let names = [
             ("opens for want of a grant, wave 1000", opens_for_want(seen)),
             ("next call, wave 50", again),
@@ -93,7 +93,7 @@ impl Tally {
             ),
             (
                 "fault in a stop by the grant, wave 0",
-                ungranted && after.wave == 0,
+                for_the_grant && after.wave == 0,
             ),
         ];
         self.count_held("stop", &names);

@@ -1,4 +1,4 @@
-//! What the host owes, by trials: windows that lie wrongly in time, and a short of the pilot line.
+//! What the host owes, by trials: windows that lie wrongly in time or miss the high part of 5 %, and a short of the pilot line.
 //!
 //! The line sends the wave that was commanded, and the host calls with what it read of the line.
 //! Times of calls are in ms, as the archive has them. Times on the line are in µs.
@@ -36,6 +36,15 @@ impl Line {
             return self.high;
         }
         -12_000
+    }
+
+    /// The window of a call. Each reading is the middle of its part of the window.
+    fn window(&self, windows: Windows, time: u64) -> Vec<i32> {
+        let Windows { span, readings, .. } = windows;
+        let start = (time - windows.late - span) * MS;
+        let middles = (0..readings).map(|part| (2 * part + 1) * span * MS / (2 * readings));
+        let levels = middles.map(|middle| self.level(start + middle));
+        levels.collect()
     }
 }
 
@@ -130,18 +139,9 @@ impl Host {
     }
 
     fn sample(&mut self, time: u64) -> Reply {
-        let readings = self.window(time);
+        let readings = self.line.window(self.windows, time);
         let reply = self.post.sample(Millis(time), &readings);
         reply.expect("an allowed window")
-    }
-
-    /// The window of a call. Each reading is the middle of its part of the window.
-    fn window(&self, time: u64) -> Vec<i32> {
-        let Windows { span, readings, .. } = self.windows;
-        let start = (time - self.windows.late - span) * MS;
-        let middles = (0..readings).map(|part| (2 * part + 1) * span * MS / (2 * readings));
-        let levels = middles.map(|middle| self.line.level(start + middle));
-        levels.collect()
     }
 
     /// A window that is refused, as it has no readings, and the tick in its place.
@@ -258,4 +258,59 @@ fn a_sound_window_partly_after_a_short_adds_its_length() {
     assert_eq!(longest_of_all(many(APART)), 119_690);
     assert_eq!(longest_of_all(ADVISED), 88_710);
     assert_eq!(longest_of_all(many(ADVISED)), 88_860);
+}
+
+/// A van in C under 5 %, whose periods begin so many µs after a millisecond.
+fn at_five_percent(since: u64) -> Line {
+    Line {
+        high: 6_000,
+        wave: 50,
+        since,
+        short: u64::MAX,
+    }
+}
+
+/// 1,024 readings over 20 periods.
+const LONG: Windows = Windows {
+    readings: 1_024,
+    ..APART
+};
+/// A reading every 62.5 µs, in step with the wave.
+const IN_STEP: Windows = Windows { span: 16, ..APART };
+
+#[test]
+fn few_readings_lie_in_the_high_part_of_five_percent() {
+    let high = |windows, since| {
+        let window = at_five_percent(since).window(windows, LIMIT);
+        window.iter().filter(|&&level| level == 6_000).count()
+    };
+    let fewest = |windows| (0..MS).map(|since| high(windows, since)).min();
+    assert_eq!((fewest(LONG), fewest(IN_STEP)), (Some(48), Some(0)));
+}
+
+#[test]
+fn windows_that_miss_the_high_part_open() {
+    let begin = Begin {
+        time: Millis(0),
+        rated: Milliamps(32_000),
+        pause: Millis(0),
+        ventilation: false,
+        digital: true,
+    };
+    let (mut post, _) = Post::begin(begin).expect("settings in range");
+    let told = [
+        post.limit(Millis(0), Milliamps(32_000)),
+        post.link(Millis(0), Milliamps(32_000)),
+        post.sample(Millis(10), &[9_000; 256]),
+        post.sample(Millis(20), &[9_000; 256]),
+    ];
+    assert!(told.iter().all(Result::is_ok));
+    let mut closed = |windows, time| {
+        let window = at_five_percent(40).window(windows, time);
+        let reply = post.sample(Millis(time), &window);
+        reply.expect("an allowed window").closed
+    };
+    let windows = [(LONG, 40), (LONG, 60), (IN_STEP, 76), (IN_STEP, 92)];
+    let contactor = windows.map(|(windows, time)| closed(windows, time));
+    assert_eq!(contactor, [false, true, true, false]);
 }

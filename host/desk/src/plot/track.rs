@@ -108,7 +108,7 @@ fn run<T: PartialEq>(runs: &mut Vec<Run<T>>, at: u64, value: T) {
 fn allowed(state: &State, wave: u32) -> u32 {
     match reading(wave) {
         Ok(Reading::Current(Milliamps(current))) => current,
-        Ok(Reading::DigitalOnly) => state.grant.min(state.rated).min(state.limit),
+        Ok(Reading::DigitalOnly) => state.least(),
         _ => 0,
     }
 }
