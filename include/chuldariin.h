@@ -133,13 +133,14 @@ struct chuldariin_moment {
     uint64_t time; /* ms; of no meaning unless set */
 };
 
-/* The latched faults, in the order of their numbers. */
+/* The place of each fault in the order in which the latched ones were latched: 1 for the first. 0: it is
+ * not latched. */
 struct chuldariin_faults {
-    bool diode;       /* 1 */
-    bool overcurrent; /* 2 */
-    bool residual;    /* 3 */
-    bool welded;      /* 4 */
-    bool temperature; /* 5 */
+    uint8_t diode;       /* fault 1 */
+    uint8_t overcurrent; /* fault 2 */
+    uint8_t residual;    /* fault 3 */
+    uint8_t welded;      /* fault 4 */
+    uint8_t temperature; /* fault 5 */
 };
 
 /* What a sample was found to be. */
@@ -170,7 +171,7 @@ struct chuldariin_controller {
     uint32_t wave;                       /* the wave command, tenths of a percent */
     bool closed;                         /* the contactor command */
     uint8_t settled;                     /* the settled state, 'A' to 'E'; any other number is U */
-    struct chuldariin_faults faults;     /* the latched faults */
+    struct chuldariin_faults faults;     /* the latched faults, in their order */
     struct chuldariin_previous previous; /* the previous sample */
     uint64_t last;                       /* time of the last accepted call, or of begin, ms */
     struct chuldariin_moment sound;      /* the last sound sample */
@@ -185,8 +186,9 @@ struct chuldariin_controller {
  * begin has zeros there.
  * It has 28 bytes, so a call returns it in memory, at an address that the caller passes first and C
  * hides; the 16 bytes of a version without `lines` came back in two registers. A host that was compiled
- * with any earlier header has to be compiled again: begin has a parameter more, and the controller's fields
- * stand at other offsets. A controller that it wrote is not to be lent to this version: begin anew. */
+ * with any earlier header has to be compiled again: begin has a parameter more, the controller's fields
+ * stand at other offsets, and a fault in it is a place and no longer a bool. A controller that it wrote is
+ * not to be lent to this version: begin anew. */
 struct chuldariin_reply {
     uint8_t refusal;   /* 0 if accepted, else CHULDARIIN_REFUSED_... */
     uint8_t letter;    /* the state: 'A' to 'E', 'U' unsettled, 'F' a fault is latched */
@@ -194,7 +196,7 @@ struct chuldariin_reply {
     uint32_t wave;     /* 0 steady -12 V, 1000 steady +12 V, else a duty, tenths of a percent: 100 to 960
                         * in a plain post, 50 in a digital one */
     bool closed;       /* the contactor command */
-    uint8_t fault;     /* 0, or a latched fault */
+    uint8_t fault;     /* the fault that was latched first among those latched now; 0 if none is */
     uint32_t closings; /* how often the contactor has closed since begin */
     struct chuldariin_lines lines; /* the currents of the last accepted measure; 0 before the first */
 };
@@ -292,10 +294,13 @@ struct chuldariin_reply chuldariin_measure(struct chuldariin_controller *c, uint
  * Refused: 3, 2, 1, 12, 11. */
 struct chuldariin_reply chuldariin_link(struct chuldariin_controller *c, uint64_t time, uint32_t granted);
 
-/* A fault from outside: CHULDARIIN_FAULT_RESIDUAL, _WELDED or _TEMPERATURE. Refused: 3, 2, 1, 8. */
+/* A fault from outside: CHULDARIIN_FAULT_RESIDUAL, _WELDED or _TEMPERATURE. It comes behind those that are
+ * latched, and before a fault 2 that is latched in this call; told again, it keeps its place. Refused: 3,
+ * 2, 1, 8. */
 struct chuldariin_reply chuldariin_fault(struct chuldariin_controller *c, uint64_t time, uint32_t kind);
 
-/* Drops every latched fault. Nothing else does but begin: an unplugged van does not. Refused: 3, 2, 1. */
+/* Drops every latched fault, and with them their order: read the fault that came first before. Nothing
+ * else does but begin: an unplugged van does not. Refused: 3, 2, 1. */
 struct chuldariin_reply chuldariin_clear(struct chuldariin_controller *c, uint64_t time);
 
 /* Nothing but the time. If this is refused, open the contactor. Refused: 3, 2, 1. */

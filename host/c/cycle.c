@@ -99,10 +99,32 @@ static void over_current_and_clear(void) {
         EXPECT(sample(&c, t, 6000, -12000).closed);
     EXPECT(says(chuldariin_tick(&c, 5049), 'C', 2, 533, true, 0, 1));
     EXPECT(says(chuldariin_tick(&c, 5050), 'F', 0, 0, false, CHULDARIIN_FAULT_OVERCURRENT, 1));
-    reply r = chuldariin_fault(&c, 5060, CHULDARIIN_FAULT_WELDED);
-    EXPECT(says(r, 'F', 0, 0, false, r.fault, 1) && c.faults.overcurrent && c.faults.welded);
-    EXPECT(r.fault == CHULDARIIN_FAULT_OVERCURRENT || r.fault == CHULDARIIN_FAULT_WELDED);
+    EXPECT(says(chuldariin_fault(&c, 5060, CHULDARIIN_FAULT_WELDED), 'F', 0, 0, false, CHULDARIIN_FAULT_OVERCURRENT, 1));
+    EXPECT(c.faults.overcurrent == 1 && c.faults.welded == 2 && c.faults.residual == 0);
     EXPECT(says(chuldariin_clear(&c, 5070), 'U', 0, 1000, false, 0, 1));
+}
+
+/* The fault that came first is shown, until a clear. */
+static void first_fault(void) {
+    controller c = charging();
+    EXPECT(says(chuldariin_fault(&c, 50, CHULDARIIN_FAULT_WELDED), 'F', 0, 0, false, CHULDARIIN_FAULT_WELDED, 1));
+    EXPECT(says(chuldariin_fault(&c, 60, CHULDARIIN_FAULT_RESIDUAL), 'F', 0, 0, false, CHULDARIIN_FAULT_WELDED, 1));
+    EXPECT(says(chuldariin_fault(&c, 70, CHULDARIIN_FAULT_WELDED), 'F', 0, 0, false, CHULDARIIN_FAULT_WELDED, 1));
+    EXPECT(c.faults.welded == 1 && c.faults.residual == 2);
+    EXPECT(says(chuldariin_clear(&c, 80), 'U', 0, 1000, false, 0, 1));
+    EXPECT(says(chuldariin_fault(&c, 90, CHULDARIIN_FAULT_RESIDUAL), 'F', 0, 0, false, CHULDARIIN_FAULT_RESIDUAL, 1));
+    EXPECT(c.faults.residual == 1 && c.faults.welded == 0);
+}
+
+/* The fault that is told by the call in which an over-run is 5,000 old: a fault call of this kind, or a clear. */
+static uint8_t told_with_overcurrent(uint32_t kind) {
+    controller c = charging();
+    EXPECT(chuldariin_measure(&c, 50, 35179).closed);
+    for (uint64_t t = 60; t <= 5040; t += 10)
+        EXPECT(sample(&c, t, 6000, -12000).closed);
+    reply r = kind ? chuldariin_fault(&c, 5050, kind) : chuldariin_clear(&c, 5050);
+    EXPECT(says(r, 'F', 0, 0, false, r.fault, 1) && c.faults.overcurrent == (kind ? 2 : 1));
+    return r.fault;
 }
 
 /* An over-run from 50 on, and this limit at 4,999 of it: how long after that limit fault 2 comes. */
@@ -281,6 +303,10 @@ int main(void) {
     closes_again_at(10060, 0);
     opens_after_three_seconds();
     over_current_and_clear();
+    first_fault();
+    EXPECT(told_with_overcurrent(CHULDARIIN_FAULT_RESIDUAL) == CHULDARIIN_FAULT_RESIDUAL);
+    EXPECT(told_with_overcurrent(CHULDARIIN_FAULT_TEMPERATURE) == CHULDARIIN_FAULT_TEMPERATURE);
+    EXPECT(told_with_overcurrent(CHULDARIIN_FAULT_NONE) == CHULDARIIN_FAULT_OVERCURRENT);
     over_current_on_each_line();
     still_slowing_down();
     lines_shown();

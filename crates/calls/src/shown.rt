@@ -16,7 +16,7 @@ pub(crate) fn reply(c: Controller, number: u8) -> Reply
     let letter = replies::letter(faulted, c.settled);
     let driven = c.is_driven();
     let digit = replies::digit(letter, driven);
-    let fault = c.faults.shown();
+    let fault = c.faults.first();
     Reply {
         refusal: number,
         letter: letter,

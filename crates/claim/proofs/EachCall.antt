@@ -4,16 +4,19 @@ use Prim.Native.Nat.{ℕ}
 use Rattle.rules.specs.Answer.{alone}
 use Rattle.rules.specs.Begin.{Begin, beginRefusal}
 use Rattle.rules.specs.Calls.{Call, evaluatedCall}
+use Rattle.rules.specs.Faults.{firstOf}
+use Rattle.rules.specs.FirstFault.{SomeLatched}
 use Rattle.rules.specs.Lent.{lentRefusal}
 use Rattle.rules.specs.RefusalsAre.{RefusedBy, BeginRefusedBy}
 use Rattle.rules.specs.Reply.{shown}
 use Rattle.rules.proofs.BeginRefusals.{begin-refused-by}
+use Rattle.rules.proofs.FirstFault.{some-latched}
 use Rattle.rules.proofs.LentReplies.{refused-next}
 use Rattle.rules.proofs.RefusalsAre.{refused-by}
 use Rattle.parts.specs.declared.replies.Reply.{Reply}
 use Rattle.controller.specs.declared.Controller.{Controller}
 use Rattle.calls.specs.Answers.{handedBack, Answers, Begins}
-use Rattle.controller.specs.View.{view}
+use Rattle.controller.specs.View.{stateOf, view}
 use Rattle.controller.proofs.Fixes.{view-fixes}
 use Rattle.claim.specs.EachCall.{IsRefused, EachCall, EachBegin}
 use Rattle.claim.proofs.Begun.{begin-number, begun-is, refused-begin}
@@ -25,6 +28,10 @@ module _ (call : Call) (before : Controller) (reply : Reply) (after : Controller
   not-next : IsRefused reply → lentRefusal (view before) (evaluatedCall call) ≡ 0 → ⊥
   not-next refused none = refused (number-is ∙ none)
 
+  -- the reply shows what the call hands back
+  shown-is : _≡_ {A = ℕ} (reply .fault) (firstOf (stateOf after .faults))
+  shown-is = ap (λ a. a .reply .fault) answers ∙ sym (ap (λ a. firstOf (a .lent .state .faults)) answers)
+
   pub each-call : EachCall call before reply after
   each-call =
       record {
@@ -33,6 +40,7 @@ module _ (call : Call) (before : Controller) (reply : Reply) (after : Controller
         rest-as-lent = λ refused.
             ap (λ a. a .reply) answers ∙ ap (λ lent. shown (lentRefusal (view before) (evaluatedCall call)) lent) (refused-next (view before) (evaluatedCall call) (not-next refused))
             ∙ ap (λ n. shown n (view before)) (sym number-is);
+        some-latched = subst (SomeLatched (stateOf after .faults)) (sym shown-is) (some-latched (stateOf after .faults));
       }
 
 module _ (begin : Begin) (before : Controller) (reply : Reply) (after : Controller) (begins : Begins begin before reply after) where

@@ -11,6 +11,7 @@ use Rattle.duty.specs.DutyFor.{IsGreatest}
 use Rattle.rules.specs.Answer.{begun, replyTo, lentAfter, repliesTo}
 use Rattle.rules.specs.Begin.{Begin, beginRefusal}
 use Rattle.rules.specs.Calls.{Call}
+use Rattle.rules.specs.FirstFault.{FirstLatched}
 use Rattle.rules.specs.LastMeasured.{LastMeasured}
 use Rattle.rules.specs.Lent.{altered}
 use Rattle.rules.specs.RefusalsAre.{RefusedBy}
@@ -81,6 +82,8 @@ module _ (begin : Begin) (calls : List Call) (begins : Reply) (replies : List Re
         waves = λ k within. ap (λ r. r .wave) (replies-are k within) ∙ list .waves k within;
         lines-are = λ k within. subst (LastMeasured begin calls k) (sym (ap (λ r. r .lines) (replies-are k within))) (list .lines-are k within);
         grants-are = list .grants-are;
+        firsts-shown = λ k within. subst (FirstLatched begin calls k) (sym (ap (λ r. r .fault) (replies-are k within))) (list .firsts-shown k within);
+        order-kept = list .order-kept;
         over-current = list .over-current;
         digital-lowers-none = list .digital-lowers-none;
         contactor-held =

@@ -12,6 +12,7 @@ use Rattle.rules.specs.Calls.{Call}
 use Rattle.rules.specs.Claim.{Trace, leastPause, Demand3}
 use Rattle.rules.specs.Every20.{ClosedIsSound}
 use Rattle.rules.specs.EveryList.{Reached}
+use Rattle.rules.specs.FirstFault.{OrderKept, FirstLatched}
 use Rattle.rules.specs.LastGranted.{LastGranted}
 use Rattle.rules.specs.LastMeasured.{LastMeasured}
 use Rattle.rules.specs.Lent.{Lent}
@@ -49,6 +50,10 @@ pub record EveryRun (begin : Begin) (calls : List Call) (beginReply : Reply) (re
   pub lines-are : (k : ℕ) → k ≤ length calls → LastMeasured begin calls k (asLines (replied beginReply replies k .lines))
   -- the grant that is kept is that of the last accepted link call, or 0 with A settled then or since (document 02, e); the controller's follows (`state-is`)
   pub grants-are : (k : ℕ) → k ≤ length calls → LastGranted begin calls k (before begin calls k .grant)
+  -- the fault that each reply shows is the first among those still latched, and the first of the replay's order (document 02, f)
+  pub firsts-shown : (k : ℕ) → k ≤ length calls → FirstLatched begin calls k (replied beginReply replies k .fault)
+  -- that order is the one in which they were latched; told again, a fault keeps its place; a clear, and nothing else, drops faults, and empties it
+  pub order-kept : OrderKept begin calls
   -- fault 2 comes exactly with a call that finds the van over its bound for 5,000 or longer, and that comes 5,000 or longer after every lowered duty
   -- (document 02, c); the faults are the replay's, which the replies and the controller follow (`replies-are`, `state-is`)
   pub over-current : OverCurrentExactly begin calls

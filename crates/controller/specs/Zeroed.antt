@@ -1,9 +1,10 @@
 -- A controller that no begin has filled: memory that the host has cleared. Rated 0 is out of range, so refusal 1 names it (proofs/ZeroLaws.antt).
 use mathlib.Core.Bool.{false}
 use Prim.Native.Nat.{ℕ}
+use Rattle.rules.specs.Faults.{noFaults}
 use Rattle.rules.specs.Lent.{Lent}
 use Rattle.rules.specs.Lines.{noCurrents}
-use Rattle.rules.specs.State.{Settings, unsettled, noFaults, empty, forgotten}
+use Rattle.rules.specs.State.{Settings, unsettled, empty, forgotten}
 
 -- a controller with nothing stored but settings, wave and last accepted time
 abbrev pub blank : Settings → ℕ → ℕ → Lent

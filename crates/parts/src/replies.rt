@@ -17,7 +17,7 @@ pub struct Reply {
     pub digit: u8,
     pub wave: u32,
     pub closed: bool,
-    // some latched fault, 0 if none
+    // the first of the latched faults; 0 if none is latched
     pub fault: u8,
     pub closings: u32,
     // those of the last accepted measure

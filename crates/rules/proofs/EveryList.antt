@@ -8,9 +8,11 @@ use Rattle.rules.specs.Begin.{Begin, beginRefusal, fresh}
 use Rattle.rules.specs.Calls.{Call}
 use Rattle.rules.specs.Claim.{Trace, leastPause}
 use Rattle.rules.specs.EveryList.{EveryList}
+use Rattle.rules.specs.Faults.{firstOf}
 use Rattle.rules.specs.Lent.{altered, lentRefusal}
 use Rattle.rules.specs.Traces.{callAt, replyBefore, answered}
 use Rattle.rules.proofs.Every20.{closed-is-sound}
+use Rattle.rules.proofs.FirstFault.{order-kept, first-latched}
 use Rattle.rules.proofs.LastGranted.{last-granted}
 use Rattle.rules.proofs.LastMeasured.{last-measured}
 use Rattle.rules.proofs.LentReplies.{lent-refusal, lent-is, tally-not-altered, reply-is, contactor-told, closings-told, demand3}
@@ -34,6 +36,9 @@ every-list begin calls accepted =
       lines-are = λ k within.
           rw (reply-is begin calls accepted (λ l. l .state .lines) (λ k. replyBefore begin calls k .lines) refl (λ k. refl) k within) (last-measured begin calls k within);
       grants-are = last-granted begin calls;
+      firsts-shown = λ k within.
+          rw (reply-is begin calls accepted (λ l. firstOf (l .state .faults)) (λ k. replyBefore begin calls k .fault) refl (λ k. refl) k within) (first-latched begin calls k within);
+      order-kept = order-kept begin calls;
       over-current = over-current begin calls accepted;
       digital-lowers-none = digital-lowers-none begin calls;
       states-are = λ k within. ap (λ l. l .state) (lent-is begin calls accepted k within);

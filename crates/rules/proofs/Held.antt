@@ -11,9 +11,10 @@ use Rattle.pilot.specs.Bands.{bandC, bandD, noBand, ready}
 use Rattle.pilot.specs.declared.verdicts.Verdict.{Verdict}
 use Rattle.rules.specs.Accepted.{pairAt, unsettlesAt, causeAt, opensAt, closesAt, afterWave, accept}
 use Rattle.rules.specs.Calls.{EvaluatedCall, isSample}
+use Rattle.rules.specs.Faults.{anyFault}
 use Rattle.rules.specs.Pairs.{Pair, verdict, paired, sameBand, inOneBand, bothUnsound}
 use Rattle.rules.specs.Replay.{isAccepted}
-use Rattle.rules.specs.State.{State, anyFault, setTo}
+use Rattle.rules.specs.State.{State, setTo}
 use Rattle.rules.specs.Step1Event.{settledBy, soundBy}
 use Rattle.rules.specs.Step3Wave.{isSettled, isUAE, unventilatedD}
 use Rattle.rules.specs.Step4Opening.{cause1, cause2, cause3, cause4, cause5, cause}

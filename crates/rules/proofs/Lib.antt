@@ -24,11 +24,14 @@ pub mod Held
 pub mod Grants
 pub mod NotOpened
 pub mod Stops
+pub mod Latching
+pub mod FaultTurns
 pub mod Reaching
 pub mod Every20
 pub mod LastSet
 pub mod LastMeasured
 pub mod LastGranted
+pub mod FirstFault
 pub mod Overruns
 pub mod OverrunsAt
 pub mod OverrunSince

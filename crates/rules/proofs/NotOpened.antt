@@ -9,8 +9,9 @@ use Rattle.units.specs.Wave.{drivenIn, steadyHigh}
 use Rattle.units.proofs.LevelOrder.{and-parts}
 use Rattle.rules.specs.Accepted.{pairAt, causeAt, opensAt, afterWave, accept}
 use Rattle.rules.specs.Calls.{EvaluatedCall}
+use Rattle.rules.specs.Faults.{anyFault}
 use Rattle.rules.specs.Pairs.{paired, bothUnsound}
-use Rattle.rules.specs.State.{State, Moment, anyFault, isDriven, empty, setTo, startedBy}
+use Rattle.rules.specs.State.{State, Moment, isDriven, empty, setTo, startedBy}
 use Rattle.rules.specs.Step1Event.{soundBy}
 use Rattle.rules.specs.Step2Latches.{ranFor}
 use Rattle.rules.specs.Step3Wave.{unventilatedD, stopUnder}

@@ -12,7 +12,8 @@ use Rattle.duty.specs.DutyFor.{IsGreatest}
 use Rattle.pilot.specs.Bands.{bandA, bandB, bandC, bandD, bandE, ready}
 use Rattle.rules.specs.Accepted.{afterLatch, accept}
 use Rattle.rules.specs.Calls.{fault, EvaluatedCall}
-use Rattle.rules.specs.State.{State, anyFault, isDriven, available}
+use Rattle.rules.specs.Faults.{anyFault}
+use Rattle.rules.specs.State.{State, isDriven, available}
 use Rattle.rules.specs.Step3Wave.{isSettled, isUAE}
 use Rattle.rules.proofs.Booleans.{clash}
 use Rattle.rules.proofs.Waves.{high-not-driven, low-not-driven, allowed-driven, Offers, DrivenIs, WaveIs, low, high, square, wave-is}

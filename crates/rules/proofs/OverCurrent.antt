@@ -11,24 +11,22 @@ use Rattle.units.specs.Wave.{fivePercent}
 use Rattle.rules.specs.Accepted.{accept}
 use Rattle.rules.specs.Begin.{Begin, beginRefusal}
 use Rattle.rules.specs.Calls.{Call, EvaluatedCall}
+use Rattle.rules.specs.Faults.{overcurrent, isLatched}
 use Rattle.rules.specs.Lines.{Lines}
 use Rattle.rules.specs.OverCurrent.{LatchesTwo, Over, Within, Lowers, OverTooLong, OverCurrentExactly, DigitalLowersNone}
 use Rattle.rules.specs.Replay.{isAccepted}
-use Rattle.rules.specs.State.{State, Faults, anyFault, isDriven, setTo}
+use Rattle.rules.specs.State.{State, isDriven, setTo}
 use Rattle.rules.specs.Traces.{before, callAt}
 use Rattle.rules.proofs.Acceptance.{on-time}
-use Rattle.rules.proofs.Booleans.{clash, or-true}
+use Rattle.rules.proofs.Booleans.{clash}
+use Rattle.rules.proofs.FirstFault.{latching-is}
+use Rattle.rules.proofs.Latching.{latched-any}
 use Rattle.rules.proofs.Offering.{driven-offers}
 use Rattle.rules.proofs.Overruns.{restarted, JudgedBy, AboveBound, afterStep1, ByEvent, left, starts, ends, by-event, same-lines, stays-closed, restartsAt, latches, latches-when}
 use Rattle.rules.proofs.OverrunsAt.{callTime, overrunStart, judged-by, judged-at, lowers-at, next-run}
 use Rattle.rules.proofs.OverrunSince.{Since, since, not-later}
 use Rattle.rules.proofs.Reaching.{list-reaches}
 use Rattle.rules.proofs.Stepped.{mark-is, accepted-is, refused-is}
-
--- fault 2 is one of the faults
-two-any : (faults : Faults) → faults .overcurrent ≡ true → anyFault faults ≡ true
-unfolding anyFault
-two-any faults is = rw is (or-true (faults .diode))
 
 module _ (begin : Begin) (calls : List Call) (begins : beginRefusal begin ≡ 0) where
   abbrev at : ℕ → ℕ
@@ -46,14 +44,14 @@ module _ (begin : Begin) (calls : List Call) (begins : beginRefusal begin ≡ 0)
     latching = callAt begin calls k
 
     module _ (into : isAccepted found latching ≡ true) where
-      two-is : accept found latching .faults .overcurrent ≡ true
-      two-is = sym (ap (λ x. x .faults .overcurrent) (accepted-is begin calls k (two .below) into)) ∙ two .latched
+      two-is : isLatched (accept found latching .faults) overcurrent ≡ true
+      two-is = sym (ap (λ x. isLatched (x .faults) overcurrent) (accepted-is begin calls k (two .below) into)) ∙ two .latched
 
       -- under fault 2 the wave is 0
       not-lowered : Lowers begin calls k → ⊥
       not-lowered lowers =
           let wave = sym (ap (λ x. isDriven x) (accepted-is begin calls k (two .below) into)) ∙ lowers .still-driven in
-          clash (two-any (accept found latching .faults) two-is) (driven-offers found latching wave .0)
+          clash (latched-any (accept found latching .faults) overcurrent two-is) (driven-offers found latching wave .0)
 
       from-start : (j : ℕ) → Since begin calls begins j k → began k + 5000 ≤ at k → ((lines : Lines) → JudgedBy found latching lines → AboveBound found latching lines)
           → OverTooLong begin calls k
@@ -84,14 +82,11 @@ module _ (begin : Begin) (calls : List Call) (begins : beginRefusal begin ≡ 0)
               not-lowered (rw (← is) lowers)
 
     comes : OverTooLong begin calls k
-    comes = go (isAccepted found latching) refl
-      where
-        go : (a : Bool) → isAccepted found latching ≡ a → OverTooLong begin calls k
-        go false out = clash (two .latched) (ap (λ x. x .faults .overcurrent) (refused-is begin calls k (two .below) out) ∙ two .not-yet)
-        go true into =
-            let known = latches found latching (two .not-yet) (two-is into) in
-            let run = since begin calls begins k (omega (arith, two .below)) (known .0) in
-            from-start into (run .0) (run .1) (known .1) (known .2)
+    comes =
+        let into = latching-is begin calls overcurrent k two in
+        let known = latches found latching (two .not-yet) (two-is into) in
+        let run = since begin calls begins k (omega (arith, two .below)) (known .0) in
+        from-start into (run .0) (run .1) (known .1) (known .2)
 
   -- and with every such call
   module _ (k : ℕ) (long : OverTooLong begin calls k) where
@@ -188,8 +183,8 @@ module _ (begin : Begin) (calls : List Call) (begins : beginRefusal begin ≡ 0)
     goes =
         record {
           below = long .below;
-          not-yet = none (before begin calls k .faults .overcurrent) refl;
-          latched = ap (λ x. x .faults .overcurrent) (accepted-is begin calls k (long .below) (long .accepted)) ∙ now (by-event last-state last-call);
+          not-yet = none (isLatched (before begin calls k .faults) overcurrent) refl;
+          latched = ap (λ x. isLatched (x .faults) overcurrent) (accepted-is begin calls k (long .below) (long .accepted)) ∙ now (by-event last-state last-call);
         }
       where
         last-state : State
@@ -198,14 +193,14 @@ module _ (begin : Begin) (calls : List Call) (begins : beginRefusal begin ≡ 0)
         last-call : EvaluatedCall
         last-call = callAt begin calls k
 
-        none : (b : Bool) → last-state .faults .overcurrent ≡ b → b ≡ false
+        none : (b : Bool) → isLatched (last-state .faults) overcurrent ≡ b → b ≡ false
         none false p = refl
-        none true p = clash (two-any (last-state .faults) p) (list-reaches begin (take k calls) .closed-no-fault (long .closed-since k (long .earlier) (omega arith)))
+        none true p = clash (latched-any (last-state .faults) overcurrent p) (list-reaches begin (take k calls) .closed-no-fault (long .closed-since k (long .earlier) (omega arith)))
 
         known : Old k
         known = stays-old k (long .earlier) (omega arith)
 
-        now : ByEvent last-state last-call → accept last-state last-call .faults .overcurrent ≡ true
+        now : ByEvent last-state last-call → isLatched (accept last-state last-call .faults) overcurrent ≡ true
         now (left same judged) = latches-when last-state last-call same (known .runs) (known .old)
         now (starts lines judged is unset same) = clash (known .runs) unset
         now (ends lines judged within same) =

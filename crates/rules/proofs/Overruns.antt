@@ -3,19 +3,22 @@ use mathlib.Core.Path.{_≡_, refl, sym, _∙_, ap}
 use mathlib.Core.Bool.{Bool, true, false, _&&_, _||_, not, cond}
 use Prim.Native.Nat.{ℕ, _+_, _*_, _≤_, _<_}
 use native.Mathlib.Omega.{arith}
-use lib.Dec.{leb, ltb}
+use lib.Dec.{eqb, leb, ltb}
 use borrow.Author.Tests.{leb-true, le-leb, ltb-true, ltb-false, lt-ltb}
 use Rattle.units.specs.Wave.{drivenIn}
 use Rattle.units.proofs.LevelOrder.{and-parts}
 use Rattle.window.specs.Evaluation.{Evaluation}
-use Rattle.rules.specs.Accepted.{opensAt, closesAt, afterEvent, afterWave, accept}
+use Rattle.rules.specs.Accepted.{pairAt, opensAt, closesAt, afterEvent, afterWave, accept}
 use Rattle.rules.specs.Calls.{Event, sample, limit, measure, link, fault, clear, tick, EvaluatedCall, isMeasure}
+use Rattle.rules.specs.Faults.{diode, overcurrent, residual, welded, temperature, numberOf, isPlace, isLatched}
 use Rattle.rules.specs.Lines.{Lines, noCurrents, largest}
+use Rattle.rules.specs.Pairs.{bothDiodeBad}
 use Rattle.rules.specs.State.{State, Moment, isDriven, empty, setTo}
 use Rattle.rules.specs.Step1Event.{linesBy, withKind, faultsBy, allowedCurrent, isOver, overrunAt, overrunBy}
 use Rattle.rules.specs.Step2Latches.{ranFor, overCurrent, latched}
 use Rattle.rules.specs.Step3Wave.{lowersDuty, restarts, overrunUnder}
 use Rattle.rules.proofs.Booleans.{clash, or-true}
+use Rattle.rules.proofs.Latching.{latched-own, alone}
 use Rattle.rules.proofs.OneCall.{closes-exactly}
 
 -- a duty is lowered, as numbers tell it
@@ -118,22 +121,30 @@ module _ (s : State) (call : EvaluatedCall) where
       go true p = clash e (ap (λ b. cond b empty (afterWave s call .overrun) .set) p)
 
   -- fault 2 is latched by the call if the over-run after step 1 began 5,000 or more ago, or if it was latched
-  two-is : accept s call .faults .overcurrent ≡ (faultsBy (call .event) (s .faults) .overcurrent || overCurrent (call .time) (afterEvent s call))
+  two-is : isLatched (accept s call .faults) overcurrent ≡ (isLatched (faultsBy (call .event) (s .faults)) overcurrent || overCurrent (call .time) (afterEvent s call))
   unfolding latched
-  two-is = refl
+  two-is =
+      let bad = bothDiodeBad (pairAt s call) in
+      latched-own (overCurrent (call .time) (afterEvent s call)) overcurrent _
+      ∙ ap (λ p. isPlace p || overCurrent (call .time) (afterEvent s call)) (alone bad diode (faultsBy (call .event) (s .faults)) overcurrent (λ e. absurd (omega (arith, ap numberOf e))))
 
-  two-left : (event : Event Evaluation) → s .faults .overcurrent ≡ false → faultsBy event (s .faults) .overcurrent ≡ false
+  two-left : (event : Event Evaluation) → isLatched (s .faults) overcurrent ≡ false → isLatched (faultsBy event (s .faults)) overcurrent ≡ false
   unfolding faultsBy withKind
   two-left (sample window) none = none
   two-left (limit given) none = none
   two-left (measure lines) none = none
   two-left (link granted) none = none
-  two-left (fault number) none = none
+  two-left (fault number) none =
+      ap isPlace
+      (alone (eqb number 5) temperature _ overcurrent (λ e. absurd (omega (arith, ap numberOf e)))
+      ∙ alone (eqb number 4) welded _ overcurrent (λ e. absurd (omega (arith, ap numberOf e)))
+      ∙ alone (eqb number 3) residual (s .faults) overcurrent (λ e. absurd (omega (arith, ap numberOf e))))
+      ∙ none
   two-left clear none = refl
   two-left tick none = none
 
   -- a call that latches fault 2 found an over-run that began 5,000 or more ago, and is no measure within its bound
-  pub latches : s .faults .overcurrent ≡ false → accept s call .faults .overcurrent ≡ true
+  pub latches : isLatched (s .faults) overcurrent ≡ false → isLatched (accept s call .faults) overcurrent ≡ true
       → (s .overrun .set ≡ true) × (s .overrun .time + 5000 ≤ call .time) × ((lines : Lines) → JudgedBy lines → AboveBound lines)
   unfolding overCurrent ranFor
   latches none is = go by-event (and-parts (afterStep1 .set) _ old)
@@ -153,10 +164,10 @@ module _ (s : State) (call : EvaluatedCall) where
       go (ends lines by within same) known = clash (known .0) (ap (λ m. m .set) same)
 
   -- and so does every call that finds one, unless it ends it
-  pub latches-when : afterStep1 ≡ s .overrun → s .overrun .set ≡ true → s .overrun .time + 5000 ≤ call .time → accept s call .faults .overcurrent ≡ true
+  pub latches-when : afterStep1 ≡ s .overrun → s .overrun .set ≡ true → s .overrun .time + 5000 ≤ call .time → isLatched (accept s call .faults) overcurrent ≡ true
   unfolding overCurrent ranFor
   latches-when same runs long =
-      two-is ∙ ap (λ b. faultsBy (call .event) (s .faults) .overcurrent || b) old ∙ or-true (faultsBy (call .event) (s .faults) .overcurrent)
+      two-is ∙ ap (λ b. isLatched (faultsBy (call .event) (s .faults)) overcurrent || b) old ∙ or-true (isLatched (faultsBy (call .event) (s .faults)) overcurrent)
     where
       old : overCurrent (call .time) (afterEvent s call) ≡ true
       old = ap (λ m. m .set && leb (m .time + 5000) (call .time)) same ∙ rw (runs, le-leb (s .overrun .time + 5000) (call .time) long)

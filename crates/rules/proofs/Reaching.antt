@@ -8,11 +8,14 @@ use Rattle.rules.specs.Accepted.{accept}
 use Rattle.rules.specs.Begin.{Begin, fresh}
 use Rattle.rules.specs.Calls.{Call, EvaluatedCall}
 use Rattle.rules.specs.EveryList.{Reached}
+use Rattle.rules.specs.Faults.{anyFault}
 use Rattle.rules.specs.Pairs.{verdict}
 use Rattle.rules.specs.Replay.{isAccepted, replay}
-use Rattle.rules.specs.State.{State, anyFault, available}
+use Rattle.rules.specs.State.{State, available}
 use Rattle.rules.specs.Step3Wave.{unventilatedD}
 use Rattle.rules.proofs.Booleans.{clash}
+use Rattle.rules.proofs.FaultTurns.{keeps-order}
+use Rattle.rules.proofs.Latching.{none-each-once}
 use Rattle.rules.proofs.Lists.{replay-keeps}
 use Rattle.rules.proofs.Samples.{fits}
 use Rattle.rules.proofs.Offering.{offered, wave-low-exactly, wave-kinds, driven-greatest, driven-five, driven-offers}
@@ -48,6 +51,7 @@ invariant-holds s call into was =
         none-in-plain = none-in-plain s call into (before .none-in-plain);
         stop-exactly = stop-exactly s call (before .open-no-stop) (λ e. closed e .no-fault);
         low-grant-stops = low-grant-stops s call (λ e. closed e .no-fault);
+        each-once = keeps-order s call (before .each-once);
         open-no-overrun = no-overrun s call (before .open-no-overrun);
         open-no-stop = no-stop s call (before .open-no-stop);
         overrun-closed = λ e. runs (accept s call .closed) refl e;
@@ -81,6 +85,7 @@ fresh-invariant begin =
         none-in-plain = λ plain. refl;
         stop-exactly = (λ e. clash refl (sym e), λ both. clash refl (sym (both .0)));
         low-grant-stops = λ digital closed few. clash refl (sym closed);
+        each-once = none-each-once;
         open-no-overrun = λ e. refl;
         open-no-stop = λ e. refl;
         overrun-closed = λ e. clash refl (sym e);

@@ -7,7 +7,8 @@ use native.Mathlib.Omega.{arith}
 use Rattle.units.specs.Wave.{drivenIn, steadyHigh}
 use Rattle.rules.specs.Accepted.{causeAt, opensAt, closesAt, afterLatch, afterWave, accept}
 use Rattle.rules.specs.Calls.{EvaluatedCall}
-use Rattle.rules.specs.State.{State, Moment, anyFault, empty, setTo, startedBy}
+use Rattle.rules.specs.Faults.{anyFault}
+use Rattle.rules.specs.State.{State, Moment, empty, setTo, startedBy}
 use Rattle.rules.specs.Step3Wave.{stopUnder}
 use Rattle.rules.specs.Step4Opening.{opens}
 use Rattle.rules.proofs.Booleans.{clash}

@@ -10,8 +10,9 @@ use Rattle.units.specs.Wave.{driven, fivePercent, drivenIn, steadyLow, steadyHi
 use Rattle.units.proofs.FromTo.{inside}
 use Rattle.duty.specs.DutyFor.{dutyFor, IsGreatest}
 use Rattle.duty.proofs.Laws.{greatest}
+use Rattle.rules.specs.Faults.{anyFault}
 use Rattle.rules.specs.Lent.{dutyAllowed, waveAllowed}
-use Rattle.rules.specs.State.{State, anyFault, available}
+use Rattle.rules.specs.State.{State, available}
 use Rattle.rules.specs.Step3Wave.{isUAE, unventilatedD, noDuty, sent, lowGrant, drivenWave, heldHigh, waveFor}
 use Rattle.rules.proofs.Booleans.{clash}
 

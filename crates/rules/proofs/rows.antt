@@ -6,5 +6,6 @@ pub mod LineRows
 pub mod OtherRows
 pub mod StateRows
 pub mod SlowingRows
+pub mod FaultRows
 pub mod RangeRows
 pub mod DigitalRows

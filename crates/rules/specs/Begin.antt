@@ -4,8 +4,9 @@ use Prim.Native.Nat.{ℕ}
 use lib.Dec.{eqb, ltb}
 use Rattle.units.specs.Range.{fromTo}
 use Rattle.units.specs.Wave.{steadyHigh}
+use Rattle.rules.specs.Faults.{noFaults}
 use Rattle.rules.specs.Lines.{noCurrents}
-use Rattle.rules.specs.State.{State, Settings, unsettled, noFaults, empty, forgotten}
+use Rattle.rules.specs.State.{State, Settings, unsettled, empty, forgotten}
 
 -- begin's values: time, rated current, pause, ventilation, and the mark, digital or plain
 pub record Begin : Type 0 where

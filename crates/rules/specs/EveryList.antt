@@ -12,12 +12,14 @@ use Rattle.rules.specs.Begin.{Begin, pauseFor, fresh}
 use Rattle.rules.specs.Calls.{Call}
 use Rattle.rules.specs.Claim.{leastPause, Demand3}
 use Rattle.rules.specs.Every20.{ClosedIsSound}
+use Rattle.rules.specs.Faults.{anyFault}
+use Rattle.rules.specs.FirstFault.{EachOnce, OrderKept, FirstLatched}
 use Rattle.rules.specs.LastGranted.{LastGranted}
 use Rattle.rules.specs.LastMeasured.{LastMeasured}
 use Rattle.rules.specs.Lent.{altered}
 use Rattle.rules.specs.OverCurrent.{OverCurrentExactly, DigitalLowersNone}
 use Rattle.rules.specs.Refusals.{refusal}
-use Rattle.rules.specs.State.{State, anyFault, isDriven, available}
+use Rattle.rules.specs.State.{State, isDriven, available}
 use Rattle.rules.specs.Traces.{before, callAt, lentAt, replyBefore, answered}
 
 -- what is true of every state that a list leads to
@@ -41,6 +43,8 @@ pub record Reached (s : State) : Type 0 where
   pub stop-exactly : (s .stop .set ≡ true) ↔ ((s .closed ≡ true) × (s .wave ≡ steadyHigh))
   -- so a digital post that is closed with a grant below 6,000 stops its van
   pub low-grant-stops : s .settings .digital ≡ true → s .closed ≡ true → s .grant < 6000 → (s .wave ≡ steadyHigh) × (s .stop .set ≡ true)
+  -- the order of the faults holds just those latched, each once (document 02, f)
+  pub each-once : EachOnce (s .faults)
   -- open: no over-run and no stop
   pub open-no-overrun : s .closed ≡ false → s .overrun .set ≡ false
   pub open-no-stop : s .closed ≡ false → s .stop .set ≡ false
@@ -63,6 +67,9 @@ pub record EveryList (begin : Begin) (calls : List Call) : Type 0 where
   pub lines-are : (k : ℕ) → k ≤ length calls → LastMeasured begin calls k (replyBefore begin calls k .lines)
   -- the grant that is kept is what the last call set it to that did, or 0
   pub grants-are : (k : ℕ) → k ≤ length calls → LastGranted begin calls k (before begin calls k .grant)
+  -- the fault that each reply shows is the first among those still latched; the order is that in which they were latched
+  pub firsts-shown : (k : ℕ) → k ≤ length calls → FirstLatched begin calls k (replyBefore begin calls k .fault)
+  pub order-kept : OrderKept begin calls
   -- fault 2 comes exactly with a call that finds the van over its bound for too long
   pub over-current : OverCurrentExactly begin calls
   pub digital-lowers-none : DigitalLowersNone begin calls

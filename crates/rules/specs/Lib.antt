@@ -1,4 +1,5 @@
 -- The controller of documents 01 and 02, and what is claimed of every list of calls.
+pub mod Faults
 pub mod Lines
 pub mod State
 pub mod Calls
@@ -22,6 +23,7 @@ pub mod Every20
 pub mod LastSet
 pub mod LastMeasured
 pub mod LastGranted
+pub mod FirstFault
 pub mod OverCurrent
 pub mod EveryList
 pub mod RefusalsAre

@@ -1,13 +1,15 @@
 -- When fault 2 comes in a list (document 01, steps 1 and 2; document 02, c, and e for a digital post's bound): exactly with a call that finds the van
 -- over its bound for 5,000 or longer, and that comes 5,000 or longer after every lowered duty. Proved in proofs/OverCurrent.antt.
 use mathlib.Core.Path.{_≡_}
-use mathlib.Core.Bool.{true, false}
+use mathlib.Core.Bool.{true}
 use mathlib.Core.List.{List}
 use mathlib.Core.Logic.{_↔_}
 use Prim.Native.Nat.{ℕ, suc, _+_, _*_, _≤_, _<_}
 use lib.ListN.{length}
 use Rattle.rules.specs.Begin.{Begin}
 use Rattle.rules.specs.Calls.{Call}
+use Rattle.rules.specs.Faults.{overcurrent}
+use Rattle.rules.specs.FirstFault.{Latches}
 use Rattle.rules.specs.LastMeasured.{Measures}
 use Rattle.rules.specs.Lines.{Lines, largest}
 use Rattle.rules.specs.Replay.{isAccepted}
@@ -16,11 +18,9 @@ use Rattle.rules.specs.Step1Event.{allowedCurrent}
 use Rattle.rules.specs.Traces.{before, callAt}
 
 module _ (begin : Begin) (calls : List Call) where
-  -- call k latches fault 2: it is not latched before the call, and is after it
-  pub record LatchesTwo (k : ℕ) : Type 0 where
-    pub below : k < length calls
-    pub not-yet : before begin calls k .faults .overcurrent ≡ false
-    pub latched : before begin calls (suc k) .faults .overcurrent ≡ true
+  -- call k latches fault 2
+  abbrev pub LatchesTwo : ℕ → Type 0
+  LatchesTwo k = Latches begin calls overcurrent k
 
   -- call k is a measure that is judged: accepted, and made with the contactor closed and the wave driven
   pub record Judged (k : ℕ) (lines : Lines) : Type 0 where

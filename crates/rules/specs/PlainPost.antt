@@ -13,12 +13,13 @@ use Rattle.window.specs.Evaluation.{levels}
 use Rattle.rules.specs.Answer.{begun, next, replyTo, lentAfter, repliesTo}
 use Rattle.rules.specs.Begin.{Begin, ratedAllowed, pauseAllowed}
 use Rattle.rules.specs.Calls.{Call, sample, measure, link, evaluatedCall, isLink}
+use Rattle.rules.specs.Faults.{anyFault}
 use Rattle.rules.specs.Lent.{Lent, timesAllowed, inRange}
 use Rattle.rules.specs.Lines.{Lines, largest}
 use Rattle.rules.specs.Pairs.{Pair, verdict, bothProven}
 use Rattle.rules.specs.Refusals.{limitAllowed, argumentRefusal}
 use Rattle.rules.specs.Reply.{Reply, letterOf, digit, shown}
-use Rattle.rules.specs.State.{State, anyFault, empty, setTo, startedBy, available}
+use Rattle.rules.specs.State.{State, empty, setTo, startedBy, available}
 use Rattle.rules.specs.Step1Event.{announced, overrunJudged, overrunBy}
 use Rattle.rules.specs.Step3Wave.{noDuty, sent, waveFor, stepWave}
 use Rattle.rules.specs.Step5Closing.{pauseOver, closes}

@@ -3,12 +3,13 @@ use mathlib.Core.Bool.{Bool, _||_, cond}
 use Prim.Native.Nat.{ℕ}
 use lib.Dec.{eqb}
 use Rattle.pilot.specs.Bands.{bandE}
+use Rattle.rules.specs.Faults.{anyFault, firstOf}
 use Rattle.rules.specs.Lent.{Lent}
 use Rattle.rules.specs.Lines.{Lines}
-use Rattle.rules.specs.State.{State, Faults, anyFault, isDriven}
+use Rattle.rules.specs.State.{State, isDriven}
 use Rattle.rules.specs.Step3Wave.{isSettled}
 
--- the reply: refusal number (0 if accepted), letter, digit, wave, contactor, fault, closings, and the current on each line
+-- the reply: refusal number (0 if accepted), letter, digit, wave, contactor, fault (0 if none, else the first of those latched), closings, and the current on each line
 pub record Reply : Type 0 where
   pub refusal : ℕ
   pub letter : ℕ
@@ -39,15 +40,6 @@ letterOf s = letter (anyFault (s .faults)) (s .settled)
 unfoldable pub digit : ℕ → Bool → ℕ
 digit shown driven = cond (eqb shown letterU || (eqb shown bandE || eqb shown letterF)) 0 (cond driven 2 1)
 
--- some latched fault, here the lowest; 0 if none. The paper leaves open which.
-unfoldable pub faultShown : Faults → ℕ
-faultShown faults =
-    cond (faults .diode) 1
-    (cond (faults .overcurrent) 2
-    (cond (faults .residual) 3
-    (cond (faults .welded) 4
-    (cond (faults .temperature) 5 0))))
-
 -- the reply to a call: the number, and the rest as the controller has it
 abbrev pub shown : ℕ → Lent → Reply
 shown number lent =
@@ -57,7 +49,7 @@ shown number lent =
       digit = digit (letterOf (lent .state)) (isDriven (lent .state));
       wave = lent .state .wave;
       closed = lent .state .closed;
-      fault = faultShown (lent .state .faults);
+      fault = firstOf (lent .state .faults);
       closings = lent .closings;
       lines = lent .state .lines;
     }

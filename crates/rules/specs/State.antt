@@ -1,11 +1,12 @@
--- What the replay keeps (document 01, demand 3; the lines: document 02, b; mark and grant: document 02, e), and nothing else. Times are in milliseconds,
--- currents in milliamps.
-use mathlib.Core.Bool.{Bool, true, false, _||_, cond}
+-- What the replay keeps (document 01, demand 3; the lines: document 02, b; mark and grant: document 02, e; the order of the faults: document 02, f), and
+-- nothing else. Times are in milliseconds, currents in milliamps.
+use mathlib.Core.Bool.{Bool, true, false, cond}
 use Prim.Native.Nat.{ℕ, min}
 use Rattle.units.specs.Range.{ago, longerAgo}
 use Rattle.units.specs.Wave.{drivenIn}
 use Rattle.pilot.specs.declared.verdicts.Verdict.{Verdict}
 use Rattle.pilot.specs.Bands.{noBand}
+use Rattle.rules.specs.Faults.{Faults}
 use Rattle.rules.specs.Lines.{Lines}
 
 -- a time or a start that is set, or empty; the number of an empty one says nothing
@@ -62,22 +63,6 @@ pub record Settings : Type 0 where
   -- the mark: the post is digital, or else plain
   pub digital : Bool
 
--- the latched faults: 1 no diode, 2 over-current, 3 residual current, 4 welded contact, 5 over-temperature
-pub record Faults : Type 0 where
-  pub diode : Bool
-  pub overcurrent : Bool
-  pub residual : Bool
-  pub welded : Bool
-  pub temperature : Bool
-
--- no fault is latched
-abbrev pub noFaults : Faults
-noFaults = record { diode = false; overcurrent = false; residual = false; welded = false; temperature = false }
-
--- a fault is latched
-unfoldable pub anyFault : Faults → Bool
-anyFault faults = faults .diode || (faults .overcurrent || (faults .residual || (faults .welded || faults .temperature)))
-
 -- what is kept
 pub record State : Type 0 where
   pub settings : Settings
@@ -91,6 +76,7 @@ pub record State : Type 0 where
   pub closed : Bool
   -- the settled state as its letter in ASCII; any number that is none of A to E is taken for U
   pub settled : ℕ
+  -- the latched faults, in their order
   pub faults : Faults
   -- the time of the last accepted call, or of begin
   pub last : ℕ

@@ -1,14 +1,15 @@
 -- Step 1 of an accepted call: its event.
-use mathlib.Core.Bool.{Bool, _&&_, _||_, cond}
+use mathlib.Core.Bool.{Bool, _&&_, cond}
 use Prim.Native.Nat.{ℕ, _*_}
 use lib.Dec.{eqb, ltb}
 use Rattle.pilot.specs.Bands.{bandA}
 use Rattle.duty.specs.Reading.{Reads, noCharging, digitalOnly, current, refused, readingOf}
 use Rattle.window.specs.Evaluation.{Evaluation}
 use Rattle.rules.specs.Calls.{Event, sample, limit, measure, link, fault, clear, tick}
+use Rattle.rules.specs.Faults.{Faults, residual, welded, temperature, noFaults, latchIf}
 use Rattle.rules.specs.Lines.{Lines, largest}
 use Rattle.rules.specs.Pairs.{Pair, inOneBand}
-use Rattle.rules.specs.State.{State, Moment, Faults, isDriven, leastOfThree, noFaults, empty, setTo, startedBy}
+use Rattle.rules.specs.State.{State, Moment, isDriven, leastOfThree, empty, setTo, startedBy}
 
 -- settling: by a pair in one band
 unfoldable pub settledBy : Pair → ℕ → ℕ
@@ -52,18 +53,11 @@ grantStored tick stored = stored
 unfoldable pub grantBy : Event Evaluation → ℕ → ℕ → ℕ
 grantBy event settled stored = cond (eqb settled bandA) 0 (grantStored event stored)
 
--- the faults with that of a fault call
+-- a fault call's own fault latches
 unfoldable pub withKind : ℕ → Faults → Faults
-withKind kind faults =
-    record {
-      diode = faults .diode;
-      overcurrent = faults .overcurrent;
-      residual = faults .residual || eqb kind 3;
-      welded = faults .welded || eqb kind 4;
-      temperature = faults .temperature || eqb kind 5;
-    }
+withKind kind faults = latchIf (eqb kind 5) temperature (latchIf (eqb kind 4) welded (latchIf (eqb kind 3) residual faults))
 
--- latching by a fault call, and clear
+-- latching by a fault call; clear drops every latched fault, and so empties the order
 unfoldable pub faultsBy : Event Evaluation → Faults → Faults
 faultsBy (sample window) faults = faults
 faultsBy (limit given) faults = faults

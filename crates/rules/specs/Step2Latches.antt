@@ -2,8 +2,9 @@
 use mathlib.Core.Bool.{Bool, _&&_, _||_, cond}
 use Prim.Native.Nat.{ℕ}
 use Rattle.units.specs.Range.{ago}
+use Rattle.rules.specs.Faults.{Faults, diode, overcurrent, latchIf}
 use Rattle.rules.specs.Pairs.{Pair, bothDiodeBad}
-use Rattle.rules.specs.State.{State, Moment, Faults, unsettled, forgotten}
+use Rattle.rules.specs.State.{State, Moment, unsettled, forgotten}
 
 -- it runs, and began that long ago or longer
 unfoldable pub ranFor : ℕ → ℕ → Moment → Bool
@@ -17,16 +18,9 @@ overCurrent time s = ranFor 5000 time (s .overrun)
 unfoldable pub unsettles : Bool → ℕ → Pair → State → Bool
 unsettles faultCall time pair s = faultCall || (bothDiodeBad pair || overCurrent time s)
 
--- the faults with 1 (no diode) and 2 (over-current) beside them, each where it latches
+-- 1 (no diode) and 2 (over-current), each where it latches: behind all that are latched, a fault call's own included, and 1 before 2 (document 02, f)
 abbrev pub withLatches : Bool → Bool → Faults → Faults
-withLatches diode over faults =
-    record {
-      diode = faults .diode || diode;
-      overcurrent = faults .overcurrent || over;
-      residual = faults .residual;
-      welded = faults .welded;
-      temperature = faults .temperature;
-    }
+withLatches bad over faults = latchIf over overcurrent (latchIf bad diode faults)
 
 -- the faults after step 2
 unfoldable pub latched : ℕ → Pair → State → Faults

@@ -6,7 +6,8 @@ use Rattle.units.specs.Range.{fromTo}
 use Rattle.units.specs.Wave.{fivePercent, drivenIn, steadyLow, steadyHigh}
 use Rattle.pilot.specs.Bands.{bandA, bandD, bandE}
 use Rattle.duty.specs.DutyFor.{Sends, duty, refusal, dutyFor}
-use Rattle.rules.specs.State.{State, Moment, available, anyFault, empty, setTo, startedBy}
+use Rattle.rules.specs.Faults.{anyFault}
+use Rattle.rules.specs.State.{State, Moment, available, empty, setTo, startedBy}
 
 -- a settled state that is one of A to E
 unfoldable pub isSettled : ℕ → Bool

@@ -1,7 +1,8 @@
 -- The trace of a list: what the replay says of each call, with the contactor and the closings that were told.
-use mathlib.Core.Bool.{Bool}
+use mathlib.Core.Path.{_≡_}
+use mathlib.Core.Bool.{Bool, true}
 use mathlib.Core.List.{List}
-use Prim.Native.Nat.{ℕ, zero, suc}
+use Prim.Native.Nat.{ℕ, zero, suc, _<_}
 use lib.ListN.{length, getD, take}
 use Rattle.rules.specs.Accepted.{grantAt, closesAt, causeAt}
 use Rattle.rules.specs.Answer.{begun, replyTo, lentAfter}
@@ -26,6 +27,10 @@ module _ (begin : Begin) (calls : List Call) where
   -- call k
   abbrev pub callAt : ℕ → EvaluatedCall
   callAt k = evaluatedCall (getD calls k noCall)
+
+  -- call k of the list, accepted
+  abbrev pub Accepts : ℕ → Type 0
+  Accepts k = (k < length calls) × (isAccepted (before k) (callAt k) ≡ true)
 
   -- the trace, with any contactor and closings for those that the replies tell
   abbrev pub traceOf : (ℕ → Bool) → (ℕ → ℕ) → Trace

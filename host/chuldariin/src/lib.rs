@@ -188,7 +188,7 @@ impl Post {
         })
     }
 
-    /// Drops every latched fault.
+    /// Drops every latched fault, and with them their order.
     pub fn clear(&mut self, time: Millis) -> Result<Reply, Refusal> {
         // SAFETY: as in begin_again.
         reply::accepted(unsafe { raw::chuldariin_clear(&mut self.controller, time.0) })
@@ -198,6 +198,27 @@ impl Post {
     pub fn tick(&mut self, time: Millis) -> Result<Reply, Refusal> {
         // SAFETY: as in begin_again.
         reply::accepted(unsafe { raw::chuldariin_tick(&mut self.controller, time.0) })
+    }
+
+    /// The latched faults in the order in which they were latched: the first of them is the one that a reply tells.
+    ///
+    /// ```
+    /// use chuldariin::{Begin, Fault, Milliamps, Millis, Post};
+    /// let begin = Begin { time: Millis(0), rated: Milliamps(32_000), pause: Millis(0), ventilation: false, digital: false };
+    /// let (mut post, _) = Post::begin(begin).unwrap();
+    /// post.fault(Millis(20), Fault::Welded).unwrap();
+    /// let reply = post.fault(Millis(40), Fault::Residual).unwrap();
+    /// assert_eq!(reply.fault, Some(Fault::Welded));
+    /// assert_eq!(post.faults(), [Fault::Welded, Fault::Residual]);
+    /// ```
+    pub fn faults(&self) -> Vec<Fault> {
+        let places = self.controller.faults.each();
+        let mut latched: Vec<Fault> = Fault::ALL
+            .into_iter()
+            .filter(|&fault| places[fault as usize - 1] != 0)
+            .collect();
+        latched.sort_by_key(|&fault| places[fault as usize - 1]);
+        latched
     }
 
     /// What the controller holds.

@@ -27,20 +27,34 @@ pub struct Moment {
     pub time: u64,
 }
 
-/// The latched faults.
+/// The place of each fault in the order in which the latched ones were latched: 1 for the first. 0: it is not
+/// latched.
 #[repr(C)]
 #[derive(Clone, Copy, Debug, PartialEq, Eq)]
 pub struct Faults {
     /// 1: no diode.
-    pub diode: bool,
+    pub diode: u8,
     /// 2: over-current.
-    pub overcurrent: bool,
+    pub overcurrent: u8,
     /// 3: residual current.
-    pub residual: bool,
+    pub residual: u8,
     /// 4: welded contact.
-    pub welded: bool,
+    pub welded: u8,
     /// 5: over-temperature.
-    pub temperature: bool,
+    pub temperature: u8,
+}
+
+impl Faults {
+    /// The places of faults 1 to 5.
+    pub fn each(self) -> [u8; 5] {
+        [
+            self.diode,
+            self.overcurrent,
+            self.residual,
+            self.welded,
+            self.temperature,
+        ]
+    }
 }
 
 /// What a sample was found to be.
@@ -132,11 +146,11 @@ impl Controller {
             closed: false,
             settled: 0,
             faults: Faults {
-                diode: false,
-                overcurrent: false,
-                residual: false,
-                welded: false,
-                temperature: false,
+                diode: 0,
+                overcurrent: 0,
+                residual: 0,
+                welded: 0,
+                temperature: 0,
             },
             previous: Previous {
                 kept: false,
@@ -176,7 +190,7 @@ pub struct Reply {
     pub wave: u32,
     /// The contactor command.
     pub closed: bool,
-    /// 0, or a latched fault.
+    /// The fault that was latched first among those latched now; 0 if none is.
     pub fault: u8,
     /// How often the contactor has closed since begin.
     pub closings: u32,

@@ -12,7 +12,7 @@ pub struct Reply {
     pub wave: u32,
     /// The contactor command.
     pub closed: bool,
-    /// A latched fault.
+    /// The fault that was latched first among those latched now.
     pub fault: Option<Fault>,
     /// How often the contactor has closed since begin.
     pub closings: u32,
@@ -49,6 +49,15 @@ pub enum Fault {
 }
 
 impl Fault {
+    /// Faults 1 to 5.
+    pub const ALL: [Fault; 5] = [
+        Fault::Diode,
+        Fault::Overcurrent,
+        Fault::Residual,
+        Fault::Welded,
+        Fault::Temperature,
+    ];
+
     fn of(number: u8) -> Option<Fault> {
         match number {
             0 => None,

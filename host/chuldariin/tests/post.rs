@@ -171,6 +171,21 @@ fn the_last_measure_is_shown_line_by_line() {
 }
 
 #[test]
+fn the_first_latched_fault_is_told() {
+    let mut post = charging();
+    let mut tell = |time, fault| post.fault(Millis(time), fault).expect("a kind").fault;
+    assert_eq!(tell(50, Fault::Temperature), Some(Fault::Temperature));
+    assert_eq!(tell(60, Fault::Residual), Some(Fault::Temperature));
+    assert_eq!(tell(70, Fault::Temperature), Some(Fault::Temperature));
+    assert_eq!(post.faults(), [Fault::Temperature, Fault::Residual]);
+    assert_eq!(post.controller().faults.each(), [0, 0, 2, 0, 1]);
+    assert_eq!(post.clear(Millis(80)).expect("a clear").fault, None);
+    assert_eq!(post.faults(), []);
+    post.fault(Millis(90), Fault::Residual).expect("a kind");
+    assert_eq!(post.faults(), [Fault::Residual]);
+}
+
+#[test]
 fn each_number_has_its_refusal_and_each_refusal_its_advice() {
     for number in 1..=12 {
         let refusal = Refusal::of(number).expect("twelve refusals");

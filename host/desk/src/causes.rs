@@ -1,9 +1,10 @@
 //! What happened in a call, and why: closings, openings with their causes, latches.
 
 use crate::grant;
+use crate::latched::Latched;
 use crate::running::{overrun, overrun_so_far, stop};
 use crate::turn::{Sample, Turn};
-use crate::words::{faults, grouped, letter, refusal, too_low, FAULTS, NUMERALS};
+use crate::words::{fault, faults, grouped, letter, refusal, too_low, NUMERALS};
 use chuldariin_log::Call;
 
 /// How a note stands out.
@@ -78,22 +79,26 @@ fn begun(turn: &Turn) -> Vec<Note> {
     notes
 }
 
-/// The faults that this call latched, and why.
+/// The faults that this call latched, in their order, and why.
 fn latched(turn: &Turn, notes: &mut Vec<Note>) {
-    for (place, name) in FAULTS.iter().enumerate() {
+    let all = Latched::of(&turn.after);
+    for number in all.numbers() {
+        let place = usize::from(number) - 1;
         if !turn.outcome.latched[place] {
             continue;
         }
         let why = match (place, turn.sample, turn.previous) {
             (0, Some(this), Ok(previous)) => both_off(&previous, &this, low_off),
             (1, _, _) => overrun_so_far(turn),
-            _ if turn.before.faults[place] => "told again".to_string(),
+            _ if turn.before.faults[place] => "told again, keeps its place".to_string(),
             _ => "told".to_string(),
         };
         // An opening tells its faults, and of a bad diode its levels.
         let known = |note: &Note| note.words.contains(&why) || why == "told";
         if !(turn.outcome.opened && notes.iter().any(known)) {
-            let words = format!("fault {} ({name}): {why}", place + 1);
+            let behind = all.first_before(number);
+            let behind = behind.map_or(String::new(), |first| format!(", behind {first}"));
+            let words = format!("fault {number} ({}){behind}: {why}", fault(number));
             notes.push(note(Kind::Event, words));
         }
     }
@@ -184,7 +189,7 @@ pub fn because(turn: &Turn, cause: usize) -> String {
         },
         (2, _, _) => "state D, and the post has no ventilation".to_string(),
         (3, _, _) => stopped(turn),
-        (4, _, _) => format!("fault: {}", faults(&turn.after.faults)),
+        (4, _, _) => format!("fault: {}", faults(&turn.after)),
         _ => "two unsound samples in a row".to_string(),
     }
 }

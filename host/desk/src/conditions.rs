@@ -188,7 +188,7 @@ pub fn waits_for(turn: &Turn, now: u64) -> String {
 fn waits_for_wave(state: &State) -> Vec<String> {
     let mut waits = Vec::new();
     if state.any_fault() {
-        waits.push(format!("a clear call (fault: {})", faults(&state.faults)));
+        waits.push(format!("a clear call (fault: {})", faults(state)));
     }
     if state.rated.min(state.limit) < LEAST_CURRENT {
         let limit = grouped(state.limit);

@@ -10,6 +10,7 @@
 //! | `turn` | one call, replayed and explained |
 //! | `evaluate` | window to levels, fast |
 //! | `words` | numbers, waves, faults and refusals in words |
+//! | `latched` | the latched faults in their order |
 //! | `causes` | what happened in a call: closings, openings with their causes, latches |
 //! | `running` | the same of over-runs and stops |
 //! | `grant` | the same of a digital post's grant |
@@ -28,6 +29,7 @@ pub mod demo;
 pub mod evaluate;
 pub mod grant;
 pub mod input;
+pub mod latched;
 pub mod options;
 pub mod paint;
 pub mod plot;

@@ -1,7 +1,8 @@
 //! What a whole log comes to.
 
+use crate::latched::Latched;
 use crate::turn::Turn;
-use crate::words::{counted, grouped, CAUSES, NUMERALS, REFUSALS};
+use crate::words::{counted, fault, grouped, CAUSES, NUMERALS, REFUSALS};
 use std::io::{self, Write};
 
 /// Two closings in a row of one list.
@@ -34,6 +35,8 @@ pub struct Summary {
     causes: [u64; 5],
     /// By number; no call is refused 0, 9 or 10.
     refusals: [u64; 13],
+    /// How often others came behind a fault, by its number; 0 is no fault.
+    firsts: [u64; 6],
     last_closing: Option<u64>,
     shortest: Option<Spacing>,
     /// Closings that came too soon; the proofs say that there are none.
@@ -64,6 +67,9 @@ impl Summary {
         }
         if turn.outcome.closing {
             self.closing(turn.after.last, turn.after.pause);
+        }
+        if turn.outcome.latched.contains(&true) {
+            self.latched(turn);
         }
     }
 
@@ -106,6 +112,14 @@ impl Summary {
         self.last_closing = Some(time);
     }
 
+    /// However many come behind a fault before a clear, it is counted once: when the second is latched.
+    fn latched(&mut self, turn: &Turn) {
+        let count = |state| Latched::of(state).numbers().count();
+        if count(&turn.before) < 2 && count(&turn.after) > 1 {
+            self.firsts[usize::from(turn.reply.fault)] += 1;
+        }
+    }
+
     pub fn print(&self, out: &mut impl Write) -> io::Result<()> {
         let refused: u64 = self.refusals.iter().sum();
         let accepted = grouped(self.calls - refused);
@@ -122,6 +136,7 @@ impl Summary {
         )?;
         writeln!(out, "  closings  {}", grouped(self.closings))?;
         self.print_openings(out)?;
+        self.print_firsts(out)?;
         self.print_refusals(out)?;
         writeln!(out, "  spacing   {}", self.spacing())?;
         if let Some(apart) = self.across {
@@ -166,6 +181,25 @@ impl Summary {
                 out,
                 "    {several:>7}  of them had more than one cause, and count under each"
             )?;
+        }
+        Ok(())
+    }
+
+    /// Which fault was first, where there is a question of it.
+    fn print_firsts(&self, out: &mut impl Write) -> io::Result<()> {
+        let times = self.firsts.iter().sum();
+        if times > 0 {
+            let times = counted(times, "time");
+            writeln!(
+                out,
+                "  faults    {times} one came behind another; the first was"
+            )?;
+        }
+        for (number, count) in (0..).zip(self.firsts) {
+            if count > 0 {
+                let name = fault(number);
+                writeln!(out, "    {:>7}  {number:<5} {name}", grouped(count))?;
+            }
         }
         Ok(())
     }

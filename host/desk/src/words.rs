@@ -2,6 +2,7 @@
 
 use crate::evaluate::in_range;
 use crate::grant;
+use crate::latched::Latched;
 use crate::turn::Turn;
 use chuldariin::{reading, Reading};
 use chuldariin_log::{Call, Room, Window};
@@ -105,12 +106,7 @@ pub fn letter(band: Option<Band>) -> &'static str {
 
 /// The fault that a reply tells, and how many more are latched.
 pub fn reply_fault(turn: &Turn) -> String {
-    let latched = turn.after.faults.iter().filter(|fault| **fault).count();
-    let name = fault(turn.reply.fault);
-    match latched {
-        0 | 1 => name.to_string(),
-        _ => format!("{name} +{}", latched - 1),
-    }
+    Latched::of(&turn.after).with_more(turn.reply.fault)
 }
 
 /// A fault by its number.
@@ -121,18 +117,16 @@ pub fn fault(number: u8) -> &'static str {
     }
 }
 
-/// The latched faults in words; empty if there is none.
-pub fn faults(faults: &[bool; 5]) -> String {
-    let latched = FAULTS.iter().zip(faults).filter(|fault| *fault.1);
-    let words: Vec<&str> = latched.map(|fault| *fault.0).collect();
-    words.join(", ")
+/// The latched faults in words, and which was first; empty if there is none.
+pub fn faults(state: &State) -> String {
+    Latched::of(state).words()
 }
 
 /// All that keeps a controller's wave from being driven, with the contactor closed or open when it was chosen.
 pub fn why_steady(state: &State, closed: bool) -> String {
     let mut why = Vec::new();
     if state.any_fault() {
-        why.push(format!("fault latched: {}", faults(&state.faults)));
+        why.push(format!("fault latched: {}", faults(state)));
     }
     why.extend(too_low(state, closed));
     match state.settled {

@@ -310,39 +310,6 @@ fn the_demo_writes_what_it_replays() {
 }
 
 #[test]
-fn every_latched_fault_is_told() {
-    let log = format!("{CHARGE}fault 50 4\nfault 60 3\nfault 70 3\nclear 80\n");
-    let output = run(&["replay", "-", "--only", "changes"], log.as_bytes());
-    let shown = text(&output.stdout);
-    let lines: Vec<&str> = shown.lines().collect();
-    for (line, fault, words) in [
-        (
-            "7",
-            "welded contact     ",
-            "<< OPENED: fault: welded contact (v)",
-        ),
-        (
-            "8",
-            "residual current +1",
-            "fault 3 (residual current): told",
-        ),
-        (
-            "9",
-            "residual current +1",
-            "fault 3 (residual current): told again",
-        ),
-    ] {
-        let row = lines
-            .iter()
-            .find(|row| row.split_whitespace().next() == Some(line));
-        let row = row.unwrap_or_else(|| panic!("{line}\n{shown}"));
-        assert!(row.contains(fault) && row.ends_with(words), "{row}");
-    }
-    let why = text(&run(&["why", "-", "--at", "70"], log.as_bytes()).stdout);
-    assert!(why.contains("waits for a clear call (fault: residual current, welded contact), a settled state (it is U)"), "{why}");
-}
-
-#[test]
 fn a_begin_starts_afresh() {
     let log = format!("{CHARGE}begin 50 16000 0 yes\nlimit 60 16000\nsample 70 9000 9000\nsample 80 9000 9000\nsample 90 3000 -12000\nsample 100 3000 -12000\n");
     let shown = text(&replay(log.as_bytes()).stdout);

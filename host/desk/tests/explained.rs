@@ -3,9 +3,11 @@
 //! Each opening is put to the archive again with some of its explained causes taken away: the contactor opens as long as one
 //! is left, and stays closed with the last of them gone. So the causes are those that opened it, and no others. In the same way
 //! a sample that does not close is put again with some of its missing conditions granted: it closes once all of them are.
+//! The faults are shown in the order that the archive's controller keeps, and the first is the one that it tells.
 
 use chuldariin::raw;
 use chuldariin_desk::causes::{because, notes, Kind};
+use chuldariin_desk::latched::Latched;
 use chuldariin_desk::turn::{Post, Turn};
 use chuldariin_log::ask::ask;
 use chuldariin_log::{Call, Room};
@@ -13,14 +15,15 @@ use chuldariin_trials::author::Author;
 use chuldariin_trials::dice::Dice;
 use chuldariin_trials::styles::{list, seeds, STYLES};
 use chuldariin_trials::trial::Trial;
-use std::collections::BTreeMap;
+use std::collections::{BTreeMap, BTreeSet};
 
-/// How often each set of causes opened, and each set of missing conditions kept open.
+/// How often each set of causes opened, and each set of missing conditions kept open; and which orders faults were latched in.
 #[derive(Default)]
 struct Counts {
     closings: u64,
     openings: BTreeMap<Vec<usize>, u64>,
     missing: BTreeMap<Vec<usize>, u64>,
+    orders: BTreeSet<Vec<u8>>,
 }
 
 #[test]
@@ -34,7 +37,10 @@ fn every_opening_has_its_causes_and_every_closing_misses_nothing() {
     println!("closings {}", counts.closings);
     println!("openings by causes {:?}", counts.openings);
     println!("open for want of {:?}", counts.missing);
+    println!("faults latched in the orders {:?}", counts.orders);
     assert!(counts.closings > 5_000);
+    // Every order that there can be: 1, 2, both or neither, then any of 3 to 5; or one of these, a 2 of its call, then any of the others.
+    assert_eq!(counts.orders.len(), 4 * 16 + 3 * 5);
     // The sets that the lists are known to reach, and each condition that can be missing alone.
     assert_eq!(counts.openings.len(), 16);
     for alone in [vec![PREVIOUS], vec![BAND], vec![PAUSE], vec![GRANT]] {
@@ -63,6 +69,7 @@ fn replay(calls: &[Call], counts: &mut Counts) {
         let turn = post.turn(place + 1, call).expect("the explanation holds");
         let begins = matches!(call, Call::Begin(_));
         assert_eq!(turn.reply, reply);
+        counts.orders.insert(order(&turn, &lent));
         if !begins {
             let previous = turn.previous.ok().map(|sample| sample.verdict);
             assert_eq!(previous, turn.before.previous);
@@ -78,6 +85,20 @@ fn replay(calls: &[Call], counts: &mut Counts) {
             was_closed = reply.closed;
         }
     }
+}
+
+/// The latched faults by their places in the archive's controller, as they are shown.
+fn order(turn: &Turn, lent: &raw::Controller) -> Vec<u8> {
+    let place = |fault: &u8| lent.faults.each()[usize::from(*fault) - 1];
+    let mut kept: Vec<u8> = (1..=5).filter(|fault| place(fault) != 0).collect();
+    kept.sort_by_key(place);
+    let shown: Vec<u8> = Latched::of(&turn.after).numbers().collect();
+    assert_eq!(shown, kept);
+    // A refused begin tells nothing of the controller.
+    if turn.reply.letter != 0 {
+        assert_eq!(turn.reply.fault, kept.first().copied().unwrap_or(0));
+    }
+    kept
 }
 
 fn judged(turn: &Turn, before: raw::Controller, counts: &mut Counts) {

@@ -128,7 +128,7 @@ fn a_clock_that_starts_anew_runs_on() {
         "{svg}"
     );
     assert!(svg.contains("the clock of a later one starts anew"));
-    assert!(svg.contains("<title>welded contact, over-temperature</title>"));
+    assert!(svg.contains("<title>welded contact first, then over-temperature</title>"));
     // The fault is told 600 ms after the start, of 700.
     let x = 92.0 + 1072.0 * 600.0 / 700.0;
     assert!(

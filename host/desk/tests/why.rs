@@ -68,8 +68,8 @@ fn a_wave_that_is_not_driven() {
         ),
         (
             "fault 10 3\nfault 20 4\nlimit 20 9000\n",
-            "-12 V: fault latched: residual current, welded contact, and no state is settled (U)",
-            "a clear call (fault: residual current, welded contact), a settled state (it is U)",
+            "-12 V: fault latched: residual current first, then welded contact, and no state is settled (U)",
+            "a clear call (fault: residual current first, then welded contact), a settled state (it is U)",
         ),
     ] {
         let answer = why(&format!("begin 0 32000 3000 no\n{calls}"), "20");

@@ -1,7 +1,7 @@
 //! What the archive's controller means.
 
 use chuldariin::raw;
-use chuldariin_model::{Band, State, Verdict};
+use chuldariin_model::{Band, Order, State, Verdict};
 
 /// The model's state for a controller of any content.
 pub fn meaning(c: &raw::Controller) -> State {
@@ -16,13 +16,8 @@ pub fn meaning(c: &raw::Controller) -> State {
         wave: c.wave,
         closed: c.closed,
         settled: band(c.settled),
-        faults: [
-            c.faults.diode,
-            c.faults.overcurrent,
-            c.faults.residual,
-            c.faults.welded,
-            c.faults.temperature,
-        ],
+        faults: c.faults.each().map(|place| place != 0),
+        order: order(&c.faults.each()),
         last: c.last,
         sound: moment(c.sound),
         opening: moment(c.opening),
@@ -31,6 +26,19 @@ pub fn meaning(c: &raw::Controller) -> State {
         previous: previous(c.previous),
         closings: c.closings,
     }
+}
+
+/// The order of the faults; `None` where their places are those of no order.
+fn order(places: &[u8; 5]) -> Option<Order> {
+    let fault_at = |place| {
+        (1..=5)
+            .find(|&fault| places[fault - 1] == place)
+            .unwrap_or(0)
+    };
+    let order = Order::of([1, 2, 3, 4, 5].map(|place| fault_at(place) as u32))?;
+    let latched = places.iter().filter(|place| **place != 0).count();
+    let held = order.places().iter().filter(|fault| **fault != 0).count();
+    (latched == held).then_some(order)
 }
 
 /// A byte that is no letter from A to E is no band.

@@ -19,8 +19,12 @@ pub fn unlike(archive: &raw::Reply, model: &Reply) -> Vec<&'static str> {
     unlike.map(|part| part.0).collect()
 }
 
-/// The parts in which two controllers differ.
+/// The parts in which two controllers differ. An order that the model leaves open may be any.
 pub fn unlike_kept(archive: &State, model: &State) -> Vec<&'static str> {
+    let archive = &State {
+        order: archive.order.filter(|_| model.order.is_some()),
+        ..*archive
+    };
     if archive == model {
         return Vec::new();
     }
@@ -36,6 +40,7 @@ pub fn unlike_kept(archive: &State, model: &State) -> Vec<&'static str> {
         ("kept contactor", archive.closed == model.closed),
         ("kept settled state", archive.settled == model.settled),
         ("kept faults", archive.faults == model.faults),
+        ("kept order", archive.order == model.order),
         ("kept last time", archive.last == model.last),
         ("kept sound sample", archive.sound == model.sound),
         ("kept opening", archive.opening == model.opening),

@@ -1,12 +1,12 @@
 //! Each part in which the two sides part is told.
 
-use chuldariin::raw::Controller;
+use chuldariin::raw::{self, Controller};
 use chuldariin_log::ask::ask;
 use chuldariin_log::meaning::meaning;
 use chuldariin_log::text::calls;
 use chuldariin_log::unlike::{unlike, unlike_kept};
 use chuldariin_log::Room;
-use chuldariin_model::Reply;
+use chuldariin_model::{Order, Reply, State};
 
 #[test]
 fn every_difference_is_told() {
@@ -44,4 +44,56 @@ fn every_difference_is_told() {
             "controller"
         ]
     );
+}
+
+/// Faults 3 and 4 are latched, in this order.
+fn latched(order: Option<[u32; 5]>) -> State {
+    State {
+        faults: [false, false, true, true, false],
+        order: order.map(|places| Order::of(places).expect("an order")),
+        ..meaning(&Controller::ZEROED)
+    }
+}
+
+#[test]
+fn the_order_is_compared_unless_the_model_leaves_it_open() {
+    let [one, other, open] = [Some([3, 4, 0, 0, 0]), Some([4, 3, 0, 0, 0]), None].map(latched);
+    let same: [&str; 0] = [];
+    for (archive, model, unlike) in [
+        (&one, &one, &same[..]),
+        (&other, &one, &["kept order", "controller"]),
+        (&open, &one, &["kept order", "controller"]),
+        (&one, &open, &same),
+        (&other, &open, &same),
+        (&open, &open, &same),
+    ] {
+        assert_eq!(unlike_kept(archive, model), unlike);
+    }
+}
+
+/// A reply tells the first; where the order is open, any latched fault.
+#[test]
+fn the_fault_of_a_reply() {
+    let (mut lent, mut room) = (Controller::ZEROED, Room::default());
+    let list = calls("begin 0 32000 0 no\nfault 1 4\nfault 2 3").expect("a list");
+    let replies = list.iter().map(|call| ask(&mut lent, call, &mut room));
+    let archive = replies.collect::<Vec<_>>()[2];
+    let told = |state: &State, fault: u8| {
+        let told = raw::Reply { fault, ..archive };
+        unlike(&told, &Reply::of(state, 0)).is_empty()
+    };
+    let kept = meaning(&lent);
+    let open = State {
+        order: None,
+        ..kept
+    };
+    for (fault, first, any) in [
+        (0, false, false),
+        (2, false, false),
+        (3, false, true),
+        (4, true, true),
+        (6, false, false),
+    ] {
+        assert_eq!((told(&kept, fault), told(&open, fault)), (first, any));
+    }
 }

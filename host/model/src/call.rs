@@ -1,5 +1,6 @@
 //! Begin, the seven other calls, and the reply.
 
+use crate::order::Order;
 use crate::state::{Event, State};
 use crate::steps::{run, Conditions};
 use crate::table::{check, refusal_of_begin};
@@ -29,8 +30,11 @@ pub struct Reply {
     pub digit: u8,
     pub wave: u32,
     pub closed: bool,
-    /// The latched faults. Which of them is told is left open.
+    /// The latched faults.
     pub faults: [bool; 5],
+    /// Which of them is told: the one latched first, 0 if none is. `None` where that
+    /// is open, in an altered controller.
+    pub told: Option<u32>,
     pub closings: u32,
     /// The kept line currents, line 1 first, mA.
     pub lines: [u32; 3],
@@ -46,6 +50,7 @@ impl Reply {
             wave: state.wave,
             closed: state.closed,
             faults: state.faults,
+            told: state.told(),
             closings: state.closings,
             lines: state.lines,
         }
@@ -60,16 +65,18 @@ impl Reply {
             wave: 0,
             closed: false,
             faults: [false; 5],
+            told: Some(0),
             closings: 0,
             lines: [0; 3],
         }
     }
 
-    /// May this number be told as the fault?
+    /// May this number be told as the fault? Where it is open, any latched one may.
     pub fn may_tell(&self, fault: u32) -> bool {
-        match fault {
-            0 => !self.faults.contains(&true),
-            1..=5 => self.faults[fault as usize - 1],
+        match (self.told, fault) {
+            (Some(told), _) => fault == told,
+            (None, 0) => !self.faults.contains(&true),
+            (None, 1..=5) => self.faults[fault as usize - 1],
             _ => false,
         }
     }
@@ -127,6 +134,7 @@ pub fn begin(b: &Begin) -> Result<(State, Reply), u8> {
         closed: false,
         settled: None,
         faults: [false; 5],
+        order: Some(Order::default()),
         last: b.time,
         sound: None,
         opening: None,

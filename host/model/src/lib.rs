@@ -1,19 +1,22 @@
 //! What the controller of a charging post should do, as plain Rust.
 //!
 //! It was made from document 01, the paper that states the rules, and requests a
-//! to e of document 02, without sight of the controller that it is held against,
+//! to f of document 02, without sight of the controller that it is held against,
 //! call by call. By those requests pause 0 means 10,000, a measure has a current
 //! for every line, a lowered duty restarts a running over-run, the duty table is
-//! its ranges' formula, and a digital post agrees its current over the link.
+//! its ranges' formula, a digital post agrees its current over the link, and the
+//! fault told is the one latched first.
 //! Given beside the papers were the interface with its fields `digital` and
-//! `grant`, readings 1, 3, 5, 27 and 28 below, and the first sentence of 18. The
-//! model is slow and obvious on purpose.
+//! `grant`, readings 1, 3, 5, 27 and 28 below, and the first sentence of 18. For
+//! request f it was suggested that the state keeps the order and that an altered
+//! controller may tell any latched fault. The model is slow and obvious on purpose.
 //!
 //! | File | What it holds |
 //! |---|---|
 //! | `window` | window to high and low level |
 //! | `pilot` | bands and the verdict on a sample |
 //! | `duty` | duty to current and back |
+//! | `order` | the order in which faults were latched |
 //! | `state` | what is kept between calls |
 //! | `table` | the table of refusals |
 //! | `steps` | steps 1 to 5 of an accepted call |
@@ -141,11 +144,41 @@
 //!     none of its accepted calls lowers a driven duty to another: a lower grant or
 //!     limit restarts no over-run.
 //! 42. Mark and grant are not in the reply.
+//!
+//! The order of faults
+//! 43. The order is that of the latches, call after call, also where calls have one
+//!     time. Within a call it is a fault call's own fault, then 1, then 2; the steps
+//!     latch them in that order as well.
+//! 44. "It is 1" orders 1 and 2 with each other. A fault latched before that call
+//!     would stay before both. (In a list there is none: with a fault latched the
+//!     wave is 0, and neither 1 nor 2 comes before a clear. So 1 has the first place
+//!     or none, and 2 the first, the second or none.)
+//! 45. A fault is told again if a fault call brings it while it is latched. Its
+//!     place stays, and the call unsettles and forgets all the same.
+//! 46. Clear empties the order in step 1. A 2 that the same call latches in step 2
+//!     is the first then. A fault that comes back after a clear takes a new place,
+//!     behind those latched since the clear.
+//! 47. Only begin, a latch and a clear change the order. A clear drops all faults at
+//!     once and nothing drops one of them, so the first among those still latched is
+//!     the first latched since begin or the last clear.
+//! 48. A refused call changes no order, so a refused fault call gives no place and a
+//!     refused clear empties nothing. Beside every refusal that is not alone stands
+//!     the first of the lent controller.
+//! 49. Nothing but the fault told hangs on the order. The order itself is not in the
+//!     reply.
+//! 50. An altered controller has no known order, as the papers do not say how it is
+//!     kept: any of its latched faults may be told, and 0 only if it has none. An
+//!     altered order is no refusal 1, which looks at nothing of it (6).
+//! 51. That stays so in all later calls, after a clear as well. A list may happen to
+//!     lead to such a controller; the model does not ask, and leaves its fault open.
+//! 52. A state whose order has other faults than the latched ones is altered, and its
+//!     order counts as not known.
 
 #![forbid(unsafe_code)]
 
 mod call;
 mod duty;
+mod order;
 mod pilot;
 mod state;
 mod steps;
@@ -154,6 +187,7 @@ mod window;
 
 pub use call::{begin, Begin, Outcome, Reply};
 pub use duty::{driven, duty_for, reading, Reading, LEAST_CURRENT};
+pub use order::Order;
 pub use pilot::{band, in_low_band, verdict, Band, Verdict};
 pub use state::{Event, State};
 pub use steps::{Conditions, OVERRUN_AGE, SOUND_AGE, STOP_AGE};

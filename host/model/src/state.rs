@@ -1,6 +1,7 @@
 //! What a controller keeps between calls, and what a call can bring.
 
 use crate::duty::{driven, reading, Reading};
+use crate::order::Order;
 use crate::pilot::{Band, Verdict};
 
 /// The state a controller keeps.
@@ -27,6 +28,9 @@ pub struct State {
     pub settled: Option<Band>,
     /// Latched faults: place 0 is fault 1, place 4 is fault 5.
     pub faults: [bool; 5],
+    /// Order in which they were latched. `None` in an altered controller: which
+    /// latched fault is told is then open.
+    pub order: Option<Order>,
     /// Time of the last accepted call, or of begin.
     pub last: u64,
     /// Time of the last sound sample.
@@ -71,6 +75,17 @@ impl State {
     /// Is any fault latched?
     pub fn any_fault(&self) -> bool {
         self.faults.contains(&true)
+    }
+
+    /// The order, if it is known. One with other faults than the latched ones is not:
+    /// a host has altered either.
+    pub fn known_order(&self) -> Option<Order> {
+        self.order.filter(|order| order.is_of(&self.faults))
+    }
+
+    /// The fault that is told, 0 if none is latched; `None` where that is open.
+    pub fn told(&self) -> Option<u32> {
+        self.known_order().map(|order| order.first())
     }
 
     /// Is the commanded wave driven?

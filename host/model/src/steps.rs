@@ -4,6 +4,7 @@
 //! stored time, and every figure reckoned with is in range: nothing overflows.
 
 use crate::duty::{driven, duty_for, DIGITAL_DUTY, LEAST_CURRENT};
+use crate::order::Order;
 use crate::pilot::{same_band, verdict, Band, Verdict};
 use crate::state::{Event, State};
 
@@ -74,7 +75,10 @@ pub(crate) struct Run {
 /// Takes an accepted call through all steps. A sample brings its levels.
 pub(crate) fn run(state: &State, time: u64, event: &Event, levels: Option<(i32, i32)>) -> Run {
     let mut run = Run {
-        state: *state,
+        state: State {
+            order: state.known_order(),
+            ..*state
+        },
         time,
         open_before: !state.closed,
         sample: levels
@@ -107,7 +111,7 @@ impl Run {
             Event::Limit(limit) => self.state.limit = limit,
             Event::Measure(lines) => self.measure(lines),
             Event::Fault(kind) => self.latch(kind as usize),
-            Event::Clear => self.state.faults = [false; 5],
+            Event::Clear => self.clear(),
             Event::Tick => {}
             Event::Link(granted) => self.state.grant = granted,
         }
@@ -146,10 +150,20 @@ impl Run {
         }
     }
 
-    /// Latches a fault, 1 to 5.
+    /// Latches a fault, 1 to 5. The order is that of these latches (document 02, request f).
     fn latch(&mut self, fault: usize) {
         self.state.faults[fault - 1] = true;
         self.latched[fault - 1] = true;
+        if let Some(order) = &mut self.state.order {
+            order.latch(fault as u32);
+        }
+    }
+
+    /// Clear drops every fault and empties the order. An order that is not known stays
+    /// so: clear undoes no alteration.
+    fn clear(&mut self) {
+        self.state.faults = [false; 5];
+        self.state.order = self.state.order.map(|_| Order::default());
     }
 
     fn forget(&mut self) {
@@ -157,7 +171,8 @@ impl Run {
         self.forgot = true;
     }
 
-    /// Step 2: faults 1 and 2, and what a latch of any kind brings with it.
+    /// Step 2: faults 1 and 2, and what a latch of any kind brings with it. Fault 1 is
+    /// latched first, as the order puts it before 2.
     fn step_2_latches(&mut self) {
         if both(self.sample, self.partner, |sample| sample.diode_bad) {
             self.latch(1);

@@ -207,6 +207,7 @@ impl Dice {
             closed: self.roll(2) == 0,
             settled: self.one(&[None, Some(Band::A), Some(Band::C), Some(Band::D)]),
             faults: [0; 5].map(|_| self.roll(16) == 0),
+            order: None,
             last: self.mostly(&[10_000], &[0, u64::MAX]),
             sound: self.time(),
             opening: self.time(),

@@ -436,7 +436,8 @@ fn refusals_7_and_8() {
     }
     for kind in [3, 4, 5] {
         let reply = post.call(50, Event::Fault(kind));
-        assert!(reply.refusal == 0 && reply.may_tell(kind));
+        assert!(reply.refusal == 0 && reply.faults[kind as usize - 1]);
+        assert!(reply.may_tell(3));
     }
     assert_eq!(post.call(50, Event::Clear).faults, [false; 5]);
 }

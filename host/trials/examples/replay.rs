@@ -7,8 +7,7 @@
 
 use chuldariin::raw::Controller;
 use chuldariin_log::text::calls;
-use chuldariin_model::Reply;
-use chuldariin_trials::pair::Pair;
+use chuldariin_trials::pair::{Pair, Seen};
 use chuldariin_trials::trial::both_sides;
 use std::io::Read;
 
@@ -20,7 +19,7 @@ fn main() -> Result<(), String> {
     let calls = calls(&text).map_err(|wrong| wrong.to_string())?;
     for call in calls {
         match pair.step(&call) {
-            Ok(seen) => println!("{call}\n# {}", in_words(&seen.outcome.reply)),
+            Ok(seen) => println!("{call}\n# {}", in_words(&seen)),
             Err(difference) => {
                 println!("{call}\n{}", both_sides(&difference));
                 return Err("the two sides differ".to_string());
@@ -30,11 +29,14 @@ fn main() -> Result<(), String> {
     Ok(())
 }
 
-fn in_words(reply: &Reply) -> String {
+/// The reply, with all latched faults in their order: the first is the one told.
+fn in_words(seen: &Seen) -> String {
+    let reply = &seen.outcome.reply;
     if reply.letter == 0 {
         return format!("refusal {}, alone", reply.refusal);
     }
-    let faults = (1..=5).filter(|&fault| reply.faults[fault - 1]);
+    let places = seen.after.order.unwrap_or_default().places().into_iter();
+    let faults = places.filter(|fault| *fault != 0);
     let faults: Vec<String> = faults.map(|fault| fault.to_string()).collect();
     format!(
         "refusal {}, {}{}, wave {}, {}, faults [{}], closings {}",

@@ -21,6 +21,7 @@
 //! | `shrink` | a shorter list that differs too |
 //! | `tally` | how often everything that should occur did |
 //! | `tally_duty` | the same of a changed duty and an over-run |
+//! | `tally_faults` | the same of the order of faults, and of the one told |
 //! | `tally_link` | the same of a grant, or the want of one |
 //! | `tally_stops` | the same of a stop, and of an over-run of a digital post |
 //! | `edges` | levels, numbers and times at the ends of their ranges |
@@ -30,6 +31,7 @@
 //! | `scenes` | what happens at a charging post |
 //! | `linked` | what happens at a digital post |
 //! | `disturbances` | scenes of irregular windows, faults, refused calls and clocks |
+//! | `orders` | scenes of faults in one call, and of faults behind others |
 //! | `styles` | the lists that the scenes make, each with its seed |
 //! | `wild` | controllers that a host has altered |
 //!
@@ -41,12 +43,14 @@ pub mod disturbances;
 pub mod edges;
 pub mod linked;
 pub mod noise;
+pub mod orders;
 pub mod pair;
 pub mod scenes;
 pub mod shrink;
 pub mod styles;
 pub mod tally;
 pub mod tally_duty;
+pub mod tally_faults;
 pub mod tally_link;
 pub mod tally_stops;
 pub mod trial;

@@ -54,12 +54,18 @@ impl Pair {
         if reply.refusal != 0 && self.lent != before.lent {
             what.push("a refused call changed the controller");
         }
-        what.extend(unlike_kept(&meaning(&self.lent), &state));
+        if left_open(call, &before.state, &outcome.reply) {
+            what.push("the model leaves open which fault is told");
+        }
+        let kept = meaning(&self.lent);
+        what.extend(unlike_kept(&kept, &state));
+        // Where the model leaves the order open, the archive's holds as soon as it has one.
+        self.state.order = state.order.or(kept.order);
         if what.is_empty() {
             return Ok(Seen {
                 call,
                 before: before.state,
-                after: state,
+                after: self.state,
                 outcome,
             });
         }
@@ -71,6 +77,14 @@ impl Pair {
             state,
         }))
     }
+}
+
+/// Is it left open which fault is told, by a begin or where the order is known? From begin on it never is:
+/// no list can pass by telling just any latched fault.
+fn left_open(call: &Call, before: &State, reply: &Reply) -> bool {
+    let begun = matches!(call, Call::Begin(_)) && reply.refusal == 0;
+    let known = begun || before.told().is_some();
+    known && reply.told.is_none()
 }
 
 /// The archive's side, and whether a window was only read.

@@ -3,6 +3,7 @@
 use crate::author::{Author, Scene};
 use crate::disturbances::*;
 use crate::linked::*;
+use crate::orders::*;
 use crate::scenes::*;
 use crate::trial::Played;
 use std::ops::Range;
@@ -10,7 +11,7 @@ use std::ops::Range;
 /// A name, how many lists, and the scenes that make them.
 pub type Style = (&'static str, u64, &'static [Scene]);
 
-pub const STYLES: [Style; 9] = [
+pub const STYLES: [Style; 10] = [
     (
         "charging",
         900,
@@ -48,6 +49,11 @@ pub const STYLES: [Style; 9] = [
             over_least,
             a_with_a_latch,
         ],
+    ),
+    (
+        "orders",
+        600,
+        &[over_current_and_more, no_diode_and_more, one_by_one],
     ),
 ];
 

@@ -3,7 +3,7 @@
 use crate::pair::Seen;
 use crate::tally_link::Since;
 use chuldariin_log::{Call, Room};
-use chuldariin_model::{begin, driven, refusal_of_call, Begin, Conditions, Event, State};
+use chuldariin_model::{begin, driven, refusal_of_call, Begin, Conditions, Event, Order, State};
 use std::collections::BTreeMap;
 
 /// Sets of opening causes: bit 0 is cause (i), bit 4 is cause (v).
@@ -108,6 +108,8 @@ pub struct Tally {
     /// When an over-run last restarted.
     pub(crate) restart: Option<u64>,
     pub(crate) since: Since,
+    /// The order that the last clear has dropped.
+    pub(crate) dropped: Option<Order>,
 }
 
 impl Tally {
@@ -139,6 +141,7 @@ impl Tally {
         let reply = seen.outcome.reply;
         self.count("refusal", NUMBERS[reply.refusal as usize]);
         self.see_state(reply.letter, reply.digit);
+        self.see_first(&reply);
         if let Call::Sample(_, window) = seen.call {
             self.see_length(window.length());
         }
@@ -151,6 +154,7 @@ impl Tally {
         }
         self.count("accepted", seen.call.word());
         self.see_contactor(seen);
+        self.see_faults(seen);
         self.see_ages(seen);
         self.see_duty(seen);
         self.see_link(seen);

@@ -114,20 +114,38 @@ fn wild_byte(dice: &mut Dice) -> u8 {
     }
 }
 
-/// None in two of three cases, else any of them.
+/// None in two of three cases, else some in an order, or at any places.
 fn wild_faults(dice: &mut Dice) -> raw::Faults {
-    let some = dice.one_in(3);
-    faults(if some { dice.between(0, 31) } else { 0 })
+    match dice.between(0, 5) {
+        0 => faults(any_order(dice)),
+        1 => faults(any_places(dice)),
+        _ => faults([0; 5]),
+    }
 }
 
-/// The faults of a set: bit 0 is fault 1, bit 4 is fault 5.
-pub fn faults(set: u64) -> raw::Faults {
+/// The places of some faults in any order.
+fn any_order(dice: &mut Dice) -> [u8; 5] {
+    let mut places = [1, 2, 3, 4, 5];
+    dice.shuffle(&mut places);
+    let latched = dice.between(0, 5) as u8;
+    places.map(|place| if place <= latched { place } else { 0 })
+}
+
+/// Places that are mostly those of no order: equal ones, a gap, none that is the first.
+pub fn any_places(dice: &mut Dice) -> [u8; 5] {
+    let any = dice.roll() as u8;
+    [0; 5].map(|_| dice.pick(&[0, 0, 1, 1, 2, 3, 4, 5, 6, 7, 255, any]))
+}
+
+/// The faults at these places, fault 1 in front.
+pub fn faults(places: [u8; 5]) -> raw::Faults {
+    let [diode, overcurrent, residual, welded, temperature] = places;
     raw::Faults {
-        diode: set & 1 != 0,
-        overcurrent: set & 2 != 0,
-        residual: set & 4 != 0,
-        welded: set & 8 != 0,
-        temperature: set & 16 != 0,
+        diode,
+        overcurrent,
+        residual,
+        welded,
+        temperature,
     }
 }
 

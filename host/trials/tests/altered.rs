@@ -10,6 +10,7 @@ use chuldariin_trials::edges::LARGEST;
 use chuldariin_trials::tally::Posts::{Digital, Each, Plain};
 use chuldariin_trials::tally::{Tally, Wanted, CAUSES, FAULTS, REFUSALS, STATES};
 use chuldariin_trials::tally_duty::ALTERED_RESTARTS;
+use chuldariin_trials::tally_faults::{AGAIN, LATCHES, NO_LISTS, OPEN, TOLD};
 use chuldariin_trials::tally_link::{ALTERED_IN_A, JUDGED_IN_A, OVER_11, OVER_12};
 use chuldariin_trials::trial::Trial;
 use chuldariin_trials::wild::{faults, verdict, wild, AGES, BYTES, CLOSINGS};
@@ -217,9 +218,31 @@ fn previous(base: &raw::Controller) -> Vec<raw::Controller> {
     each(base, &values, |c, value| c.previous = value)
 }
 
+/// Places of no order: two of one number, a gap, none that is the first, numbers beyond 5.
+const NO_ORDERS: [[u8; 5]; 8] = [
+    [1, 1, 0, 0, 0],
+    [0, 0, 1, 3, 0],
+    [0, 3, 2, 0, 0],
+    [0, 0, 0, 7, 0],
+    [0, 0, 0, 0, 255],
+    [5, 4, 3, 2, 2],
+    [6, 5, 4, 3, 2],
+    [255; 5],
+];
+
+/// Every set of faults, the one with the highest number first, and places of no order.
 fn all_faults(base: &raw::Controller) -> Vec<raw::Controller> {
-    let sets: Vec<u64> = (0..32).collect();
-    each(base, &sets, |c, value| c.faults = faults(value))
+    let mut values = NO_ORDERS.to_vec();
+    values.extend((0..32).map(highest_first));
+    each(base, &values, |c, value| c.faults = faults(value))
+}
+
+/// The faults of a set, each behind those with a higher number: bit 0 is fault 1, bit 4 is fault 5.
+fn highest_first(set: u8) -> [u8; 5] {
+    [0, 1, 2, 3, 4].map(|bit| match set >> bit & 1 {
+        0 => 0,
+        _ => (set >> bit).count_ones() as u8,
+    })
 }
 
 /// The contactor, with the timers as they are, and the ventilation.
@@ -270,7 +293,7 @@ const FREE: [Change; 6] = [
 ];
 
 /// What must have occurred on wild controllers: also every set of causes.
-const WANTED: [Wanted; 17] = [
+const WANTED: [Wanted; 23] = [
     (Each, "refusal", REFUSALS),
     (Digital, "refusal", &["11"]),
     (Plain, "refusal", &["12"]),
@@ -288,6 +311,12 @@ const WANTED: [Wanted; 17] = [
     (Digital, "order", &OVER_11),
     (Each, "A settled", &ALTERED_IN_A),
     (Digital, "A settled", &[JUDGED_IN_A]),
+    (Each, "told", &TOLD),
+    (Each, "told", &[OPEN]),
+    (Each, "latches", &LATCHES),
+    (Each, "told again", &AGAIN),
+    (Each, "order of 2", &[NO_LISTS]),
+    (Each, "order of 5", &[NO_LISTS]),
 ];
 
 /// Closing conditions that may be missing alone, whatever the post.

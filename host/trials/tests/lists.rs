@@ -7,8 +7,10 @@ use chuldariin_trials::tally::{
     Tally, Wanted, ABOVE_ON, FAULTS, LARGEST_ON, MOST_ON, REFUSALS, STARTS_ON,
 };
 use chuldariin_trials::tally_duty::RESTARTS;
+use chuldariin_trials::tally_faults::*;
 use chuldariin_trials::tally_link::*;
 use chuldariin_trials::tally_stops::*;
+use std::collections::BTreeSet;
 
 /// The calls that every post accepts.
 const WORDS: [&str; 7] = [
@@ -96,6 +98,19 @@ const WANTED_BY_LINK: [Wanted; 22] = [
     (Digital, "over-run", &TOO_LOW),
 ];
 
+/// What must have become of the order of faults (document 02, f).
+const WANTED_OF_FAULTS: [Wanted; 9] = [
+    (Each, ORDERS[0].0, ORDERS[0].1),
+    (Each, ORDERS[1].0, ORDERS[1].1),
+    (Each, ORDERS[2].0, ORDERS[2].1),
+    (Each, ORDERS[3].0, ORDERS[3].1),
+    (Each, ORDERS[4].0, ORDERS[4].1),
+    (Each, "latches", &LATCHES),
+    (Each, "told again", &AGAIN),
+    (Each, "after a clear", &AFRESH),
+    (Each, "told", &TOLD),
+];
+
 #[test]
 fn both_sides_agree_on_every_list() {
     let mut tally = Tally::default();
@@ -117,5 +132,39 @@ fn both_sides_agree_on_every_list() {
     );
     let mut never = tally.missing(&WANTED);
     never.extend(tally.missing(&WANTED_BY_LINK));
+    never.extend(tally.missing(&WANTED_OF_FAULTS));
     assert!(never.is_empty(), "never occurred: {}", never.join("; "));
+    assert_eq!(tally.of("told", OPEN), 0, "left open which fault is told");
+    no_other_orders(&tally);
+}
+
+/// How many orders were reached, and that a list can reach all of them.
+fn no_other_orders(tally: &Tally) {
+    for (group, names) in ORDERS {
+        let counts = names.iter().map(|name| tally.of(group, name));
+        let reached = counts.clone().filter(|count| *count > 0).count();
+        let (of, times) = (names.len(), counts.sum::<u64>());
+        println!("{group}: {reached} of {of}, {times} times");
+        assert_eq!(tally.of(group, NO_LISTS), 0, "{group}");
+    }
+}
+
+/// What one call can latch where no fault is, and up to three fault calls behind it.
+#[test]
+fn the_orders_that_a_list_can_reach_are_these() {
+    let alone = ["1", "2", "3", "4", "5", "1 2", "3 2", "4 2", "5 2"];
+    let mut reached = BTreeSet::from(alone.map(String::from));
+    for _ in 0..3 {
+        let longer: Vec<String> = reached.iter().flat_map(|order| behind(order)).collect();
+        reached.extend(longer);
+    }
+    let listed = ORDERS.iter().flat_map(|(_, names)| names.iter());
+    assert_eq!(reached, listed.map(|name| name.to_string()).collect());
+}
+
+/// The orders with one fault call's fault behind this one.
+fn behind(order: &str) -> Vec<String> {
+    let others = ["3", "4", "5"].into_iter();
+    let others = others.filter(|fault| !order.contains(fault));
+    others.map(|fault| format!("{order} {fault}")).collect()
 }

@@ -9,13 +9,14 @@ use Rattle.pilot.specs.Bands.{bandA, bandB, bandC}
 use Rattle.rules.specs.Answer.{begun, lentAfter}
 use Rattle.rules.specs.Begin.{ratedAllowed, pauseAllowed}
 use Rattle.rules.specs.Calls.{Event, limit, measure, link, fault, clear, tick, evaluated, inTurn}
+use Rattle.rules.specs.Faults.{noFaults, anyFault}
 use Rattle.rules.specs.Lent.{Lent, dutyAllowed, waveAllowed, storedAllowed, timesAllowed, inRange, altered, lentRefusal}
 use Rattle.rules.specs.Lines.{noCurrents, onLine1}
 use Rattle.rules.specs.PlainPost.{withoutLinks}
 use Rattle.rules.specs.Refusals.{timeRefusal, limitAllowed, grantAllowed, argumentRefusal, refusal}
 use Rattle.rules.specs.Replay.{step, replay}
 use Rattle.rules.specs.Reply.{letterF, letterU, letter, digit, shown}
-use Rattle.rules.specs.State.{Moment, noFaults, anyFault, empty, setTo, forgotten}
+use Rattle.rules.specs.State.{Moment, empty, setTo, forgotten}
 use Rattle.rules.specs.Step3Wave.{isSettled}
 use Rattle.rules.specs.Traces.{answered}
 use Rattle.rules.proofs.rows.RangeRows.{RefusedAll}
@@ -291,7 +292,7 @@ inA = unreachedWith true true bandA 16000 50 (setTo 100)
 abbrev pub FoundRow : Type 0
 FoundRow =
     let after = lentAfter inA (map callOf (call 5100 (measure (onLine1 17600)) ∷ [])) .state in
-    (after .faults .overcurrent ≡ false) × (after .grant ≡ 0)
+    (after .faults .overcurrent ≡ 0) × (after .grant ≡ 0)
 
 -- the claim speaks of begin's mark, and of the grant after a call's step 1
 abbrev pub TraceRow : Type 0

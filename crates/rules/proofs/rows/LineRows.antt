@@ -7,10 +7,11 @@ use Rattle.pilot.specs.Bands.{bandB, bandC}
 use Rattle.rules.specs.Answer.{answerToBegin}
 use Rattle.rules.specs.Begin.{Begin, beginRefusal}
 use Rattle.rules.specs.Calls.{limit, measure, fault, clear, tick}
+use Rattle.rules.specs.Faults.{noFaults}
 use Rattle.rules.specs.Lent.{Lent}
 use Rattle.rules.specs.Lines.{noCurrents, onLine1}
 use Rattle.rules.specs.Reply.{letterF, letterU}
-use Rattle.rules.specs.State.{noFaults, empty, setTo, forgotten}
+use Rattle.rules.specs.State.{empty, setTo, forgotten}
 use Rattle.rules.proofs.rows.Sequences.{Sequence, steadyAt, drivenAt, on, row, showing, at80A, charging, Tells, AllTell, tells-by, computed}
 
 -- 0 at the start; kept with the contactor open and closed, under a steady wave and under a driven one; every other call shows them, also one that is

@@ -5,11 +5,12 @@ use mathlib.Core.Path.{refl}
 use Prim.Native.Nat.{ℕ}
 use Rattle.pilot.specs.Bands.{bandA, bandB, bandC, bandD, bandE}
 use Rattle.rules.specs.Calls.{limit, measure, fault, clear, tick}
+use Rattle.rules.specs.Faults.{Faults, noFaults}
 use Rattle.rules.specs.Lent.{Lent}
 use Rattle.rules.specs.Lines.{noCurrents, onLine1}
 use Rattle.rules.specs.Reply.{letterF, letterU}
 use Rattle.rules.proofs.rows.Sequences.{Sequence, steadyAt, drivenAt, call, every, on, row, showing, at32A, at80A, withVentilation, charging, Tells, AllTell}
-use Rattle.rules.specs.State.{Moment, Previous, Faults, noFaults, empty, forgotten}
+use Rattle.rules.specs.State.{Moment, Previous, empty, forgotten}
 use Rattle.rules.proofs.rows.Sequences.{tells-by, computed}
 
 -- a limit of 0 that is repeated does not start the stop afresh
@@ -153,8 +154,8 @@ faultsTold =
       first = charging 0 80000;
       entries =
           row 50 (fault 4) 0 letterF 0 0 false 4 1
-          ∷ row 60 (fault 3) 0 letterF 0 0 false 3 1
-          ∷ row 60 (fault 5) 0 letterF 0 0 false 3 1
+          ∷ row 60 (fault 3) 0 letterF 0 0 false 4 1
+          ∷ row 60 (fault 5) 0 letterF 0 0 false 4 1
           ∷ row 70 clear 0 letterU 0 1000 false 0 1
           ∷ row 80 (steadyAt 6000) 0 letterU 0 1000 false 0 1
           ∷ row 90 (steadyAt 6000) 0 bandC 2 960 false 0 1

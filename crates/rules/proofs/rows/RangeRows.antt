@@ -8,9 +8,10 @@ use Rattle.units.specs.Wave.{driven}
 use Rattle.window.specs.Evaluation.{refused}
 use Rattle.rules.specs.Begin.{beginRefusal, ratedAllowed, pauseAllowed}
 use Rattle.rules.specs.Calls.{sample, limit}
+use Rattle.rules.specs.Faults.{noFaults}
 use Rattle.rules.specs.Lent.{Lent, lentRefusal, dutyAllowed, waveAllowed, storedAllowed, timesAllowed, inRange, altered}
 use Rattle.rules.specs.Lines.{Lines}
-use Rattle.rules.specs.State.{Moment, noFaults, empty, setTo, forgotten}
+use Rattle.rules.specs.State.{Moment, empty, setTo, forgotten}
 use Rattle.rules.specs.Refusals.{timeRefusal, limitAllowed, grantAllowed, argumentRefusal}
 
 -- begin's time, rated current and pause, and the refusal

@@ -18,13 +18,14 @@ use Rattle.duty.specs.Reading.{readingOf}
 use Rattle.window.specs.Evaluation.{Evaluation, levels, readingAllowed}
 use Rattle.rules.specs.Answer.{begun, next, replyTo, lentAfter, repliesTo}
 use Rattle.rules.specs.Calls.{Event, Call, sample, limit, measure, link, fault, clear, tick, evaluatedCall, EvaluatedCall, evaluated, inTurn}
+use Rattle.rules.specs.Faults.{anyFault, howMany, putAt, latch, lowest, firstOf}
 use Rattle.rules.specs.Lent.{Lent, dutyAllowed, waveAllowed, storedAllowed, timesAllowed, inRange, altered, lentRefusal}
 use Rattle.rules.specs.Lines.{Lines, noCurrents, largest, lineAllowed, linesAllowed}
-use Rattle.rules.specs.Reply.{Reply, letter, digit, faultShown}
+use Rattle.rules.specs.Reply.{Reply, letter, digit}
 use Rattle.rules.specs.Begin.{ratedAllowed, pauseAllowed, pauseFor, fresh}
 use Rattle.rules.specs.Pairs.{windowVerdict, verdict, paired, sameBand, inOneBand, bothProven, bothDiodeBad, bothUnsound}
 use Rattle.rules.specs.Refusals.{timeRefusal, kindAllowed, limitAllowed, grantAllowed, linkRefusal, argumentRefusal}
-use Rattle.rules.specs.State.{anyFault, available, leastOfThree}
+use Rattle.rules.specs.State.{available, leastOfThree}
 use Rattle.rules.specs.Step1Event.{settledBy, soundBy, limitBy, linesBy, withKind, faultsBy, grantStored, grantBy, currentOf, announced, allowedBy, isOver, overrunAt, overrunBy}
 use Rattle.rules.specs.Step2Latches.{ranFor, overCurrent, unsettles, latched}
 use Rattle.rules.specs.Step3Wave.{isSettled, isUAE, unventilatedD, noDuty, sent, lowGrant, drivenWave, heldHigh, waveFor, lowersDuty, restarts, overrunUnder, stopUnder}
@@ -205,7 +206,7 @@ tells-by sequence lent right rights comes answers =
 
 -- a call computed on levels: what unfolds this unfolds every definition that a call goes through
 unfoldable pub computed : Lent → List LevelCall → Lent
-unfolding within strictlyBetween fromTo driven drivenIn bandOf ready isBCD sound proven diodeBad verdictOf atMost allowed orRefusal dutyFor orElse greatestBelow readingOf next ratedAllowed pauseAllowed pauseFor fresh dutyAllowed waveAllowed storedAllowed timesAllowed inRange altered lentRefusal windowVerdict verdict paired sameBand inOneBand bothProven bothDiodeBad bothUnsound timeRefusal kindAllowed limitAllowed grantAllowed largest lineAllowed linesAllowed linkRefusal argumentRefusal letter digit faultShown anyFault settledBy soundBy limitBy linesBy withKind faultsBy grantStored grantBy currentOf announced allowedBy isOver overrunAt overrunBy ranFor overCurrent unsettles latched isSettled isUAE unventilatedD available leastOfThree noDuty sent lowGrant drivenWave heldHigh waveFor lowersDuty restarts overrunUnder stopUnder cause1 cause2 cause3 cause4 cause5 cause opens pauseOver hasGrant closes closingsBy
+unfolding within strictlyBetween fromTo driven drivenIn bandOf ready isBCD sound proven diodeBad verdictOf atMost allowed orRefusal dutyFor orElse greatestBelow readingOf next ratedAllowed pauseAllowed pauseFor fresh dutyAllowed waveAllowed storedAllowed timesAllowed inRange altered lentRefusal windowVerdict verdict paired sameBand inOneBand bothProven bothDiodeBad bothUnsound timeRefusal kindAllowed limitAllowed grantAllowed largest lineAllowed linesAllowed linkRefusal argumentRefusal letter digit anyFault howMany putAt latch lowest firstOf settledBy soundBy limitBy linesBy withKind faultsBy grantStored grantBy currentOf announced allowedBy isOver overrunAt overrunBy ranFor overCurrent unsettles latched isSettled isUAE unventilatedD available leastOfThree noDuty sent lowGrant drivenWave heldHigh waveFor lowersDuty restarts overrunUnder stopUnder cause1 cause2 cause3 cause4 cause5 cause opens pauseOver hasGrant closes closingsBy
 computed lent calls = lentOn lent calls
 
 pub lent-append : (lent : Lent) (first rest : List LevelCall) → lentOn lent (first ++ rest) ≡ lentOn (lentOn lent first) rest

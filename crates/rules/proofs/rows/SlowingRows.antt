@@ -7,15 +7,16 @@ use Prim.Native.Nat.{ℕ}
 use Rattle.pilot.specs.Bands.{bandC}
 use Rattle.rules.specs.Answer.{lentAfter}
 use Rattle.rules.specs.Calls.{Event, limit, measure, tick}
+use Rattle.rules.specs.Faults.{noFaults}
 use Rattle.rules.specs.Lent.{Lent}
 use Rattle.rules.specs.Lines.{onLine1}
 use Rattle.rules.specs.Reply.{letterF}
-use Rattle.rules.specs.State.{Moment, noFaults, empty, setTo}
+use Rattle.rules.specs.State.{Moment, empty, setTo}
 use Rattle.rules.proofs.rows.Sequences.{Levels, LevelCall, Entry, Sequence, drivenAt, callOf, call, every, showing, at80A, charging, isSquare, Tells, AllTell, lentOn, lent-on, lent-append, tells-by, computed}
 use Rattle.rules.proofs.rows.StateRows.{unreachedBy}
 
 -- from begin on: charging at 80 A under this limit, an over-run since 100, and sound samples up to 5,060
-abbrev overrunning : ℕ → List LevelCall
+abbrev pub overrunning : ℕ → List LevelCall
 overrunning current = charging 0 current ++ (call 100 (measure (onLine1 200000)) ∷ every 63 80 100 (drivenAt 6000))
 
 -- and so for 63 samples more
@@ -23,7 +24,7 @@ abbrev longer : List LevelCall
 longer = every 63 80 5100 (drivenAt 6000)
 
 -- a call with such a van, and the reply to it
-abbrev over : ℕ → Event Levels → ℕ → ℕ → ℕ → Bool → ℕ → Entry
+abbrev pub over : ℕ → Event Levels → ℕ → ℕ → ℕ → Bool → ℕ → Entry
 over time event letter digit wave closed kind = showing (onLine1 200000) time event 0 letter digit wave closed kind 1
 
 -- lowered at 4,999 of the over-run: fault 2 at 9,999 of it, not at 9,998
@@ -107,7 +108,7 @@ RestartRow =
     × (keptAfter 80000 960 true (setTo 50) (limit 5999) ≡ empty)
 
 -- where the calls up to 5,060 lead: computed once for each limit, and the rest of a row from there
-abbrev since100 : ℕ → ℕ → Lent
+abbrev pub since100 : ℕ → ℕ → Lent
 since100 current wave =
     record {
       state = record {
@@ -129,7 +130,7 @@ since100 current wave =
       closings = 1;
     }
 
-at-960 : lentOn (at80A 0) (overrunning 80000) ≡ since100 80000 960
+pub at-960 : lentOn (at80A 0) (overrunning 80000) ≡ since100 80000 960
 unfolding computed
 at-960 = refl
 
@@ -137,7 +138,7 @@ at-959 : lentOn (at80A 0) (overrunning 79999) ≡ since100 79999 959
 unfolding computed
 at-959 = refl
 
-then : (current wave : ℕ) → lentOn (at80A 0) (overrunning current) ≡ since100 current wave → (rest : List LevelCall) (lent : Lent) → lentOn (since100 current wave) rest ≡ lent
+pub then : (current wave : ℕ) → lentOn (at80A 0) (overrunning current) ≡ since100 current wave → (rest : List LevelCall) (lent : Lent) → lentOn (since100 current wave) rest ≡ lent
     → lentOn (at80A 0) (overrunning current ++ rest) ≡ lent
 then current wave comes rest lent is = lent-append (at80A 0) (overrunning current) rest ∙ ap (λ l. lentOn l rest) comes ∙ is
 

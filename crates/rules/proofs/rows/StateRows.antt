@@ -7,10 +7,11 @@ use Rattle.pilot.specs.Bands.{bandC}
 use Rattle.rules.specs.Answer.{lentAfter}
 use Rattle.rules.specs.Begin.{fresh, pauseFor}
 use Rattle.rules.specs.Calls.{measure, fault, tick}
+use Rattle.rules.specs.Faults.{Faults, noFaults}
 use Rattle.rules.specs.Lent.{Lent}
 use Rattle.rules.specs.Lines.{noCurrents, onLine1}
 use Rattle.rules.proofs.rows.Sequences.{LevelCall, callOf, call, at80A}
-use Rattle.rules.specs.State.{Moment, Faults, noFaults, empty, setTo, forgotten}
+use Rattle.rules.specs.State.{Moment, empty, setTo, forgotten}
 use Rattle.rules.proofs.rows.Sequences.{lent-on, computed}
 
 -- begin of a digital post at 5, with pause 0 and ventilation
@@ -24,7 +25,7 @@ FreshRow =
       wave = 1000;
       closed = false;
       settled = 0;
-      faults = record { diode = false; overcurrent = false; residual = false; welded = false; temperature = false };
+      faults = record { diode = 0; overcurrent = 0; residual = 0; welded = 0; temperature = 0 };
       last = 5;
       sound = record { set = false; time = 0 };
       opening = record { set = false; time = 0 };
@@ -38,14 +39,14 @@ FreshRow =
 abbrev pub PauseRow : Type 0
 PauseRow = map pauseFor (0 ∷ 1000 ∷ 3000 ∷ 10000 ∷ 60000 ∷ []) ≡ 10000 ∷ 1000 ∷ 3000 ∷ 10000 ∷ 60000 ∷ []
 
--- a fault call leaves the other faults latched
+-- a fault call leaves the other faults latched, and its own comes behind them
 abbrev pub faultCalls : List LevelCall
 faultCalls = call 10 (fault 3) ∷ call 20 (fault 4) ∷ call 30 (fault 5) ∷ call 40 (fault 3) ∷ []
 
 abbrev pub FaultsRow : Type 0
 FaultsRow =
     lentAfter (at80A 0) (map callOf faultCalls) .state .faults
-    ≡ record { diode = false; overcurrent = false; residual = true; welded = true; temperature = true }
+    ≡ record { diode = 0; overcurrent = 0; residual = 1; welded = 2; temperature = 3 }
 
 -- a controller that no list leads to, in range: limit, wave, contactor, faults, over-run, stop and the time of the last call as given
 abbrev pub unreachedBy : ℕ → ℕ → Bool → Faults → Moment → Moment → ℕ → Lent
@@ -88,11 +89,11 @@ NotJudgedRow =
     × (lentAfter (unreachedByWave 960 false noFaults (setTo 50) empty) (map callOf nothingDrawn) .state .overrun ≡ setTo 50)
 
 -- a wave of 0 neither starts nor ends a stop
-abbrev pub residual : Faults
-residual = record { diode = false; overcurrent = false; residual = true; welded = false; temperature = false }
+abbrev pub residualLatched : Faults
+residualLatched = record { diode = 0; overcurrent = 0; residual = 1; welded = 0; temperature = 0 }
 
 abbrev pub StopRow : Type 0
-StopRow = lentAfter (unreachedByWave 0 false residual empty (setTo 50)) (map callOf (call 110 tick ∷ [])) .state .stop ≡ setTo 50
+StopRow = lentAfter (unreachedByWave 0 false residualLatched empty (setTo 50)) (map callOf (call 110 tick ∷ [])) .state .stop ≡ setTo 50
 
 pub fresh-row : FreshRow
 unfolding pauseFor fresh
@@ -119,4 +120,4 @@ not-judged-row = (
 
 pub stop-row : StopRow
 unfolding computed
-stop-row = ap (λ l. l .state .stop) (lent-on (unreachedByWave 0 false residual empty (setTo 50)) (call 110 tick ∷ []) refl)
+stop-row = ap (λ l. l .state .stop) (lent-on (unreachedByWave 0 false residualLatched empty (setTo 50)) (call 110 tick ∷ []) refl)

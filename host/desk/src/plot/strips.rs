@@ -4,10 +4,10 @@ use super::scale::Scale;
 use super::svg::{Anchor, Svg};
 use super::track::{Run, Track};
 use super::{LEFT, RIGHT, STRIPS};
+use crate::latched::Latched;
 use crate::running::{fault_2_at, fault_2_due};
 use crate::table::state;
 use crate::turn::Overrun;
-use crate::words::faults;
 
 const HEIGHT: f64 = 18.0;
 const APART: f64 = 24.0;
@@ -25,24 +25,21 @@ struct Span<T> {
 
 /// How a value is shown.
 struct Part {
-    long: String,
-    short: String,
+    /// The longest first: a pointer shows that one.
+    labels: [String; 3],
     colour: &'static str,
 }
 
 impl Part {
     fn new(long: &str, short: &str, colour: &'static str) -> Option<Part> {
-        Some(Part {
-            long: long.to_string(),
-            short: short.to_string(),
-            colour,
-        })
+        let labels = [long, short, short].map(str::to_string);
+        Some(Part { labels, colour })
     }
 
     /// The longest label that there is room for.
     fn label(&self, width: f64) -> Option<&String> {
         let fits = |label: &&String| width > LETTER * label.len() as f64 + 2.0;
-        [&self.long, &self.short].into_iter().find(fits)
+        self.labels.iter().find(fits)
     }
 }
 
@@ -62,16 +59,8 @@ pub fn draw(svg: &mut Svg, track: &Track, scale: &Scale) {
     });
     restarts(svg, &overruns);
     let latched = spans(&track.faults, track, scale);
-    strip(svg, 3, "fault", &latched, |latched| {
-        let numbers: Vec<String> = (1..=5)
-            .filter(|&fault| latched[fault - 1])
-            .map(|fault| fault.to_string())
-            .collect();
-        match numbers.is_empty() {
-            true => None,
-            false => Part::new(&faults(latched), &numbers.join(","), "#ff8182"),
-        }
-    });
+    strip(svg, 3, "fault", &latched, fault_of);
+    behind(svg, &latched);
     let refused: Vec<Span<()>> = track.refused.iter().map(|at| place(scale.x(*at))).collect();
     strip(svg, 4, "refused", &refused, |_| {
         Part::new("refused", "", "#9a6700")
@@ -91,13 +80,38 @@ fn run_of(overrun: Overrun) -> Option<Part> {
     }
 }
 
+/// The latched faults in their order.
+fn fault_of(latched: &Latched) -> Option<Part> {
+    let first = latched.numbers().next()?;
+    let numbers: Vec<String> = latched.numbers().map(|number| number.to_string()).collect();
+    Some(Part {
+        labels: [latched.words(), latched.with_more(first), numbers.join(",")],
+        colour: "#ff8182",
+    })
+}
+
+/// A line where a fault comes behind others.
+fn behind(svg: &mut Svg, latched: &[Span<Latched>]) {
+    let any = |span: &Span<Latched>| span.value.numbers().next().is_some();
+    let pairs = latched.windows(2).filter(|pair| pair.iter().all(any));
+    divide(svg, 3, pairs.map(|pair| pair[1].from));
+}
+
 /// A line where an over-run restarts; one that goes on at the start restarted before it.
 fn restarts(svg: &mut Svg, overruns: &[Span<Option<Overrun>>]) {
-    let top = top(2);
-    for span in overruns.iter().filter(|span| span.from > LEFT) {
-        if span.value.is_some_and(|overrun| overrun.restarted()) {
-            svg.line((span.from, top), (span.from, top + HEIGHT), "frame");
-        }
+    let restarted = |overrun: Overrun| overrun.restarted();
+    let spans = overruns.iter().filter(|span| span.from > LEFT);
+    let spans = spans.filter(|span| span.value.is_some_and(restarted));
+    divide(svg, 2, spans.map(|span| span.from));
+}
+
+/// Lines through a strip; those closer than half a pixel are one.
+fn divide(svg: &mut Svg, row: usize, places: impl Iterator<Item = f64>) {
+    let mut places: Vec<f64> = places.collect();
+    places.dedup_by(|next, kept| *next - *kept < 0.5);
+    let top = top(row);
+    for x in places {
+        svg.line((x, top), (x, top + HEIGHT), "frame");
     }
 }
 
@@ -147,7 +161,7 @@ fn strip<T>(
             continue;
         }
         drawn = from + width;
-        svg.titled_fill(from, top, width, HEIGHT, part.colour, &part.long);
+        svg.titled_fill(from, top, width, HEIGHT, part.colour, &part.labels[0]);
         if let Some(label) = part.label(width) {
             let x = from + width / 2.0;
             svg.text(x, top + 13.0, 11.0, Anchor::Middle, "", label);

@@ -2,6 +2,7 @@
 
 use crate::causes::notes;
 use crate::input::Log;
+use crate::latched::Latched;
 use crate::turn::{Differs, Overrun, Post, Turn};
 use chuldariin::{raw, reading, Milliamps, Reading};
 use chuldariin_log::Call;
@@ -88,7 +89,7 @@ pub struct Track {
     pub closed: Vec<Run<bool>>,
     pub state: Vec<Run<(u8, u8)>>,
     pub overrun: Vec<Run<Option<Overrun>>>,
-    pub faults: Vec<Run<[bool; 5]>>,
+    pub faults: Vec<Run<Latched>>,
     pub refused: Vec<u64>,
     pub marks: Vec<Mark>,
     clock: Clock,
@@ -200,7 +201,7 @@ impl Track {
         run(&mut self.allowed, at, allowed(state, reply.wave));
         run(&mut self.closed, at, reply.closed);
         run(&mut self.state, at, (reply.letter, reply.digit));
-        run(&mut self.faults, at, state.faults);
+        run(&mut self.faults, at, Latched::of(state));
     }
 
     fn mark(&mut self, at: u64, turn: &Turn) {

@@ -1,5 +1,8 @@
 //! Draws a log, and finds what is drawn.
 
+// Each test uses a part of it.
+#![allow(dead_code)]
+
 use chuldariin_desk::input::Log;
 use chuldariin_desk::plot::plot;
 

@@ -3,6 +3,7 @@
 // Not every test file wants all of it.
 #![allow(dead_code)]
 
+pub mod latched;
 pub mod linked;
 
 use chuldariin_model::*;
@@ -42,6 +43,7 @@ pub fn charging() -> State {
         closed: true,
         settled: Some(Band::C),
         faults: [false; 5],
+        order: None,
         last: 10_000,
         sound: Some(10_000),
         opening: None,

@@ -4,7 +4,7 @@ use Rattle.calls.proofs.shown.reply.Tie as tie
 
 returns : tie.Need-returns
 returns c =
-    rw (c .shown .ensures, c .before .digit .ensures, c .before .before .is-driven .ensures, c .before .before .before .letter .ensures, c .before .before .before .before .any .ensures)
+    rw (c .first .ensures, c .before .digit .ensures, c .before .before .is-driven .ensures, c .before .before .before .letter .ensures, c .before .before .before .before .any .ensures)
 
 pub reply-spec : {M : Type 1} → statement M
 reply-spec = tie.close (tie.spec (λ c κs. tt) (λ c κs. tt) (λ c κs. tt) (λ c κs. tt) (λ c κs. tt) returns)
