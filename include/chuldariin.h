@@ -5,7 +5,7 @@
  * then the controller is as it was. Nothing is allocated, nothing is kept elsewhere, nothing blocks. A
  * sample makes n * n comparisons of n readings at the most, of eight instructions each: 8.4 million
  * instructions for 1,024 readings of which none is supported, 0.5 million for 256. The other calls on a
- * controller take about 760 instructions, a measure up to 820.
+ * controller take about 780 instructions, a measure up to 830.
  *
  *     struct chuldariin_controller post = {0};
  *     struct chuldariin_reply r = chuldariin_begin(&post, now_ms, 32000, 0, false, false);
@@ -133,8 +133,8 @@ struct chuldariin_moment {
     uint64_t time; /* ms; of no meaning unless set */
 };
 
-/* The place of each fault in the order in which the latched ones were latched: 1 for the first. 0: it is
- * not latched. */
+/* The place of each fault in the order of latching: 1 for the one that was latched first, 2 for the next,
+ * 0 for one that is not latched. Latched is any number but 0: do not compare with true. */
 struct chuldariin_faults {
     uint8_t diode;       /* fault 1 */
     uint8_t overcurrent; /* fault 2 */
@@ -171,7 +171,7 @@ struct chuldariin_controller {
     uint32_t wave;                       /* the wave command, tenths of a percent */
     bool closed;                         /* the contactor command */
     uint8_t settled;                     /* the settled state, 'A' to 'E'; any other number is U */
-    struct chuldariin_faults faults;     /* the latched faults, in their order */
+    struct chuldariin_faults faults;     /* the place of each latched fault */
     struct chuldariin_previous previous; /* the previous sample */
     uint64_t last;                       /* time of the last accepted call, or of begin, ms */
     struct chuldariin_moment sound;      /* the last sound sample */
@@ -294,13 +294,14 @@ struct chuldariin_reply chuldariin_measure(struct chuldariin_controller *c, uint
  * Refused: 3, 2, 1, 12, 11. */
 struct chuldariin_reply chuldariin_link(struct chuldariin_controller *c, uint64_t time, uint32_t granted);
 
-/* A fault from outside: CHULDARIIN_FAULT_RESIDUAL, _WELDED or _TEMPERATURE. It comes behind those that are
- * latched, and before a fault 2 that is latched in this call; told again, it keeps its place. Refused: 3,
- * 2, 1, 8. */
+/* A fault from outside: CHULDARIIN_FAULT_RESIDUAL, _WELDED or _TEMPERATURE. Tell it at once, and two in the
+ * order in which they came: it comes behind those that are latched, and before a fault 2 that is latched in
+ * this call. Told again, it keeps its place. Refused: 3, 2, 1, 8. */
 struct chuldariin_reply chuldariin_fault(struct chuldariin_controller *c, uint64_t time, uint32_t kind);
 
-/* Drops every latched fault, and with them their order: read the fault that came first before. Nothing
- * else does but begin: an unplugged van does not. Refused: 3, 2, 1. */
+/* Drops every latched fault, and their order with them: note the first before this call. Nothing else drops
+ * a fault but begin: an unplugged van does not. A clear with an over-run 5 s old latches fault 2 itself, and
+ * shows it. Refused: 3, 2, 1. */
 struct chuldariin_reply chuldariin_clear(struct chuldariin_controller *c, uint64_t time);
 
 /* Nothing but the time. If this is refused, open the contactor. Refused: 3, 2, 1. */

@@ -9,7 +9,8 @@ use Rattle.rules.specs.Lines.{Lines}
 use Rattle.rules.specs.State.{State, isDriven}
 use Rattle.rules.specs.Step3Wave.{isSettled}
 
--- the reply: refusal number (0 if accepted), letter, digit, wave, contactor, fault (0 if none, else the first of those latched), closings, and the current on each line
+-- the reply: refusal number (0 if accepted), letter, digit, wave, contactor, fault (0 if none, else the first of those latched), closings, and the current on
+-- each line
 pub record Reply : Type 0 where
   pub refusal : ℕ
   pub letter : ℕ

@@ -201,6 +201,7 @@ impl Post {
     }
 
     /// The latched faults in the order in which they were latched: the first of them is the one that a reply tells.
+    /// In a post made by [`Post::with`] from places that no list leads to, it need not be the same one.
     ///
     /// ```
     /// use chuldariin::{Begin, Fault, Milliamps, Millis, Post};
@@ -228,7 +229,7 @@ impl Post {
 
     /// A post with this controller, whatever it holds. The next call refuses one whose wave, limit, grant,
     /// rated current, pause, stored times or closings are out of range; any other is taken as it is,
-    /// also with currents that no measure could have brought.
+    /// also with currents that no measure could have brought, or with faults in no order.
     pub fn with(controller: raw::Controller) -> Post {
         Post { controller }
     }

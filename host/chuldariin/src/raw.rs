@@ -27,8 +27,8 @@ pub struct Moment {
     pub time: u64,
 }
 
-/// The place of each fault in the order in which the latched ones were latched: 1 for the first. 0: it is not
-/// latched.
+/// The place of each fault in the order of latching: 1 for the one that was latched first, 2 for the next, 0 for
+/// one that is not latched.
 #[repr(C)]
 #[derive(Clone, Copy, Debug, PartialEq, Eq)]
 pub struct Faults {

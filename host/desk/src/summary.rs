@@ -190,10 +190,7 @@ impl Summary {
         let times = self.firsts.iter().sum();
         if times > 0 {
             let times = counted(times, "time");
-            writeln!(
-                out,
-                "  faults    {times} one came behind another; the first was"
-            )?;
+            writeln!(out, "  faults    behind another {times}; the first was")?;
         }
         for (number, count) in (0..).zip(self.firsts) {
             if count > 0 {

@@ -205,16 +205,13 @@ fn the_summary_counts_the_first() {
     let first = "          1  3     residual current";
     assert_eq!(
         summary(once),
-        [
-            "  faults    1 time one came behind another; the first was",
-            first
-        ]
+        ["  faults    behind another 1 time; the first was", first]
     );
     let again = "clear 90\nfault 100 4\nfault 110 3\nclear 120\nfault 130 4\nfault 140 5\n";
     assert_eq!(
         summary(&format!("{once}{again}")),
         [
-            "  faults    3 times one came behind another; the first was",
+            "  faults    behind another 3 times; the first was",
             first,
             "          2  4     welded contact",
         ]
@@ -226,7 +223,7 @@ fn the_summary_counts_the_first() {
 fn the_summary_counts_two_faults_of_one_call() {
     let log = format!("{}fault 5050 3\n", over_run());
     let answer = answer(&["replay", "-"], &log);
-    line(&answer, "faults    1 time one came behind another");
+    line(&answer, "faults    behind another 1 time");
     line(&answer, "1  3     residual current");
 }
 

@@ -26,7 +26,7 @@ pub struct State {
     pub closed: bool,
     /// Settled state; `None` is U.
     pub settled: Option<Band>,
-    /// Latched faults: place 0 is fault 1, place 4 is fault 5.
+    /// Latched faults: index 0 is fault 1, index 4 is fault 5.
     pub faults: [bool; 5],
     /// Order in which they were latched. `None` in an altered controller: which
     /// latched fault is told is then open.
