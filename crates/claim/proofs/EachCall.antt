@@ -10,7 +10,7 @@ use Rattle.rules.specs.Lent.{lentRefusal}
 use Rattle.rules.specs.RefusalsAre.{RefusedBy, BeginRefusedBy}
 use Rattle.rules.specs.Reply.{shown}
 use Rattle.rules.proofs.BeginRefusals.{begin-refused-by}
-use Rattle.rules.proofs.FirstFault.{some-latched}
+use Rattle.rules.proofs.ShownFault.{some-latched}
 use Rattle.rules.proofs.LentReplies.{refused-next}
 use Rattle.rules.proofs.RefusalsAre.{refused-by}
 use Rattle.parts.specs.declared.replies.Reply.{Reply}

@@ -1,12 +1,11 @@
--- Which fault came first: the order of a list is that in which its faults were latched, and the first of it is told.
+-- Which fault came first: the order of a list is that in which its faults were latched, and the first of it is shown.
 use mathlib.Core.Path.{_≡_, refl, sym, _∙_, ap, subst}
-use mathlib.Core.Bool.{Bool, true, false, cond}
+use mathlib.Core.Bool.{Bool, true, false}
 use mathlib.Core.List.{List}
 use mathlib.Core.Logic.{_⊎_, inl, inr}
 use Prim.Native.Nat.{ℕ, zero, suc, _≤_, _<_}
 use native.Mathlib.Decide.{decLt}
 use native.Mathlib.Omega.{arith}
-use lib.Dec.{eqb}
 use lib.ListN.{length, take}
 use borrow.Author.Tests.{eqb-true, eqb-false}
 use Rattle.window.specs.Evaluation.{Evaluation}
@@ -14,64 +13,17 @@ use Rattle.rules.specs.Accepted.{accept}
 use Rattle.rules.specs.Begin.{Begin, fresh}
 use Rattle.rules.specs.Calls.{Event, Call, sample, limit, measure, link, fault, clear, tick, isSample, inTurn}
 use Rattle.rules.specs.EveryList.{Reached}
-use Rattle.rules.specs.Faults.{Fault, Faults, diode, overcurrent, residual, welded, temperature, numberOf, placeOf, isLatched, lowestOf, lowest, firstOf}
+use Rattle.rules.specs.Faults.{Fault, Faults, diode, overcurrent, residual, welded, temperature, numberOf, placeOf, isLatched, lowest, firstOf}
 use Rattle.rules.specs.FirstFault.{SomeLatched, none, some, CameBefore, latchedAt, Latches, LatchedSince, OrderKept, FirstLatched, first}
 use Rattle.rules.specs.Replay.{isAccepted, replay}
 use Rattle.rules.specs.State.{State}
 use Rattle.rules.specs.Traces.{before, callAt, Accepts}
 use Rattle.rules.proofs.Booleans.{clash}
-use Rattle.rules.proofs.FaultTurns.{none-latched, two-behind, own-latched, own-only, one-only, clear-only, clear-drops, place-kept, comes-behind}
+use Rattle.rules.proofs.FaultsOfCall.{none-latched, two-behind, own-latched, own-only, one-only, clear-only, clear-drops, place-kept, comes-behind}
 use Rattle.rules.proofs.Latching.{is-place, some-place, number-fixes, same-fault}
 use Rattle.rules.proofs.Reaching.{list-reaches}
 use Rattle.rules.proofs.Stepped.{accepted-is, refused-is}
-
--- the lowest of those whose test comes out true, or the other number
-data Lowest (test : Fault → Bool) (other told : ℕ) : Type 0 where
-  found : (f : Fault) → told ≡ numberOf f → test f ≡ true → Lowest test other told
-  not-found : ((f : Fault) → test f ≡ false) → told ≡ other → Lowest test other told
-
-lowest-is : (test : Fault → Bool) (other : ℕ) → Lowest test other (lowestOf test other)
-lowest-is test other = go (test diode) (test overcurrent) (test residual) (test welded) (test temperature) refl refl refl refl refl
-  where
-    go : (a b c d e : Bool) → test diode ≡ a → test overcurrent ≡ b → test residual ≡ c → test welded ≡ d → test temperature ≡ e
-        → Lowest test other (cond a 1 (cond b 2 (cond c 3 (cond d 4 (cond e 5 other)))))
-    go true b c d e p q r t u = found diode refl p
-    go false true c d e p q r t u = found overcurrent refl q
-    go false false true d e p q r t u = found residual refl r
-    go false false false true e p q r t u = found welded refl t
-    go false false false false true p q r t u = found temperature refl u
-    go false false false false false p q r t u = not-found all refl
-      where
-        all : (f : Fault) → test f ≡ false
-        all diode = p
-        all overcurrent = q
-        all residual = r
-        all welded = t
-        all temperature = u
-
--- the fault at the first place
-abbrev isFirst : Faults → Fault → Bool
-isFirst s f = eqb (placeOf s f) 1
-
-told-is : (s : Faults) → Lowest (isFirst s) (lowest s) (firstOf s)
-unfolding firstOf
-told-is s = lowest-is (isFirst s) (lowest s)
-
-lowest-latched : (s : Faults) → SomeLatched s (lowest s)
-unfolding lowest
-lowest-latched s = go (lowest-is (isLatched s) 0)
-  where
-    go : Lowest (isLatched s) 0 (lowestOf (isLatched s) 0) → SomeLatched s (lowestOf (isLatched s) 0)
-    go (found f is latched) = some f is latched
-    go (not-found all is) = none is all
-
--- some latched fault is told of any controller
-pub some-latched : (s : Faults) → SomeLatched s (firstOf s)
-some-latched s = go (told-is s)
-  where
-    go : Lowest (isFirst s) (lowest s) (firstOf s) → SomeLatched s (firstOf s)
-    go (found f is first-place) = some f is (is-place (placeOf s f) (omega (arith, eqb-true (placeOf s f) 1 first-place)))
-    go (not-found all is) = rw is (lowest-latched s)
+use Rattle.rules.proofs.ShownFault.{Lowest, found, not-found, isFirst, shown-is, some-latched}
 
 -- the kind of a fault call
 abbrev kindOf : Event Evaluation → ℕ
@@ -301,7 +253,7 @@ module _ (begin : Begin) (calls : List Call) where
           inr (at-once other same (one-is-two f g j (f-since .latches) (subst (λ n. Latches begin calls g n) same (g-since .latches)) other))
 
   pub first-latched : (k : ℕ) → k ≤ length calls → FirstLatched begin calls k (firstOf (faultsAt k))
-  first-latched k within = go (told-is (faultsAt k)) (some-latched (faultsAt k))
+  first-latched k within = go (shown-is (faultsAt k)) (some-latched (faultsAt k))
     where
       go : Lowest (isFirst (faultsAt k)) (lowest (faultsAt k)) (firstOf (faultsAt k)) → SomeLatched (faultsAt k) (firstOf (faultsAt k))
           → FirstLatched begin calls k (firstOf (faultsAt k))
@@ -310,7 +262,7 @@ module _ (begin : Begin) (calls : List Call) where
           let by = since f k within (is-place (placeOf (faultsAt k) f) (omega (arith, place))) in
           first f (by .0) is place (by .1) (came-first k within f (by .0) place (by .1))
       go (not-found all is) (none nothing none-latched-now) = none nothing none-latched-now
-      go (not-found all is) (some f told latched) =
+      go (not-found all is) (some f number latched) =
           let many = some-place (placeOf (faultsAt k) f) latched in
           let held = reached k .each-once .each-held 1 (omega arith) (omega (arith, many, reached k .each-once .no-further f)) in
           absurd (eqb-false (placeOf (faultsAt k) (held .0)) 1 (all (held .0)) (held .1))
@@ -318,10 +270,10 @@ module _ (begin : Begin) (calls : List Call) where
   -- and no other is: the statement leaves one answer
   pub first-fixed : (k a b : ℕ) → FirstLatched begin calls k a → FirstLatched begin calls k b → a ≡ b
   first-fixed k a b (none is nothing) (none is' nothing') = is ∙ sym is'
-  first-fixed k a b (none is nothing) (first f j told place f-since before-all) = clash (f-since .still k (f-since .earlier) (omega arith)) (nothing f)
-  first-fixed k a b (first f j told place f-since before-all) (none is nothing) = clash (f-since .still k (f-since .earlier) (omega arith)) (nothing f)
-  first-fixed k a b (first f j told place f-since before-all) (first g i told' place' g-since before-all') =
-      told ∙ ap numberOf (go (before-all g i g-since) (before-all' f j f-since)) ∙ sym told'
+  first-fixed k a b (none is nothing) (first f j number place f-since before-all) = clash (f-since .still k (f-since .earlier) (omega arith)) (nothing f)
+  first-fixed k a b (first f j number place f-since before-all) (none is nothing) = clash (f-since .still k (f-since .earlier) (omega arith)) (nothing f)
+  first-fixed k a b (first f j number place f-since before-all) (first g i number' place' g-since before-all') =
+      number ∙ ap numberOf (go (before-all g i g-since) (before-all' f j f-since)) ∙ sym number'
     where
       apart : CameBefore f j g i → CameBefore g i f j → ⊥
       apart (inl earlier) (inl later) = omega arith

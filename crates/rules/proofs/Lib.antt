@@ -26,11 +26,13 @@ pub mod NotOpened
 pub mod Stops
 pub mod Latching
 pub mod FaultTurns
+pub mod FaultsOfCall
 pub mod Reaching
 pub mod Every20
 pub mod LastSet
 pub mod LastMeasured
 pub mod LastGranted
+pub mod ShownFault
 pub mod FirstFault
 pub mod Overruns
 pub mod OverrunsAt

@@ -14,7 +14,7 @@ use Rattle.rules.specs.Replay.{isAccepted, replay}
 use Rattle.rules.specs.State.{State, available}
 use Rattle.rules.specs.Step3Wave.{unventilatedD}
 use Rattle.rules.proofs.Booleans.{clash}
-use Rattle.rules.proofs.FaultTurns.{keeps-order}
+use Rattle.rules.proofs.FaultsOfCall.{keeps-order}
 use Rattle.rules.proofs.Latching.{none-each-once}
 use Rattle.rules.proofs.Lists.{replay-keeps}
 use Rattle.rules.proofs.Samples.{fits}
