@@ -52,7 +52,8 @@ pub record EveryRun (begin : Begin) (calls : List Call) (beginReply : Reply) (re
   pub grants-are : (k : ℕ) → k ≤ length calls → LastGranted begin calls k (before begin calls k .grant)
   -- the fault that each reply shows is the first among those still latched, and the first of the replay's order (document 02, f)
   pub firsts-shown : (k : ℕ) → k ≤ length calls → FirstLatched begin calls k (replied beginReply replies k .fault)
-  -- that order is the one in which they were latched; told again, a fault keeps its place; a clear, and nothing else, drops faults, and empties it
+  -- that order is the one in which they were latched; told again, a fault keeps its place; what brings 1, 3, 4 and 5; an accepted clear, and nothing else,
+  -- drops faults, all that it finds
   pub order-kept : OrderKept begin calls
   -- fault 2 comes exactly with a call that finds the van over its bound for 5,000 or longer, and that comes 5,000 or longer after every lowered duty
   -- (document 02, c); the faults are the replay's, which the replies and the controller follow (`replies-are`, `state-is`)

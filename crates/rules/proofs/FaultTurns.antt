@@ -4,7 +4,6 @@ use mathlib.Core.Bool.{Bool, true, false, _||_}
 use Prim.Native.Nat.{ℕ, zero, suc, _≤_, _<_}
 use native.Mathlib.Decide.{decLt}
 use native.Mathlib.Omega.{arith}
-use Rattle.rules.specs.Calls.{fault}
 use Rattle.rules.specs.Faults.{Fault, Faults, diode, overcurrent, residual, welded, temperature, placeOf, isPlace, isLatched, latchIf}
 use Rattle.rules.specs.FirstFault.{EachOnce}
 use Rattle.rules.proofs.Latching.{or-right, turned, latched-own, alone, Grows, grows, grows-on, grows-still, stays-each-once}

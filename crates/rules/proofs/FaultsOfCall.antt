@@ -21,7 +21,7 @@ use Rattle.rules.specs.Step1Event.{withKind, faultsBy, overrunBy}
 use Rattle.rules.specs.Step2Latches.{ranFor, overCurrent, latched, withLatches}
 use Rattle.rules.proofs.Acceptance.{arguments-right}
 use Rattle.rules.proofs.Booleans.{clash, not-refused}
-use Rattle.rules.proofs.Latching.{latched-any, alone, Grows, none-each-once}
+use Rattle.rules.proofs.Latching.{latched-any, Grows, none-each-once}
 use Rattle.rules.proofs.FaultTurns.{faultOf, two-last, stage, stage-each-once, stage-grows, by-turns, test-latches, latched-by-test}
 
 -- a fault call names its own fault
@@ -167,7 +167,7 @@ module _ (s : State) (call : EvaluatedCall) where
   own-latched welded into is = passes 1 (omega arith) (ap (λ e. own e 4) is)
   own-latched temperature into is = passes 2 (omega arith) (ap (λ e. own e 5) is)
 
-  -- 3, 4 and 5 come by such a call alone, and 1 by a sample
+  -- 3, 4 and 5 come by such a call alone
   pub own-only : (f : Fault) → 3 ≤ numberOf f → isLatched (s .faults) f ≡ false → isLatched after f ≡ true → call .event ≡ fault (numberOf f)
   own-only diode least not-yet is = absurd (omega arith)
   own-only overcurrent least not-yet is = absurd (omega arith)
@@ -175,11 +175,16 @@ module _ (s : State) (call : EvaluatedCall) where
   own-only welded least not-yet is = own-is (call .event) 4 (passed 1 (omega arith) not-yet is)
   own-only temperature least not-yet is = own-is (call .event) 5 (passed 2 (omega arith) not-yet is)
 
-  pub one-only : isLatched (s .faults) diode ≡ false → isLatched after diode ≡ true → isSample (call .event) ≡ true
+  -- 1 comes with two diode-bad samples, so by a sample, and with nothing else
+  pub one-latched : bothDiodeBad (pairAt s call) ≡ true → isLatched after diode ≡ true
+  one-latched = passes 3 (omega arith)
+
+  pub one-only : isLatched (s .faults) diode ≡ false → isLatched after diode ≡ true → bothDiodeBad (pairAt s call) ≡ true
+  one-only = passed 3 (omega arith)
+
+  pub by-sample : bothDiodeBad (pairAt s call) ≡ true → isSample (call .event) ≡ true
   unfolding bothDiodeBad paired
-  one-only not-yet is =
-      let both = and-parts (paired (pairAt s call)) _ (passed 3 (omega arith) not-yet is) in
-      and-parts (isSample (call .event)) _ (both .0) .0
+  by-sample both = and-parts (isSample (call .event)) _ (and-parts (paired (pairAt s call)) _ both .0) .0
 
   -- only a clear drops a fault
   pub clear-only : (f : Fault) → isLatched (s .faults) f ≡ true → isLatched after f ≡ false → call .event ≡ clear

@@ -6,20 +6,21 @@ use mathlib.Core.Logic.{_⊎_, inl, inr}
 use Prim.Native.Nat.{ℕ, zero, suc, _≤_, _<_}
 use native.Mathlib.Decide.{decLt}
 use native.Mathlib.Omega.{arith}
+use lib.IntN.{ℤ}
 use lib.ListN.{length, take}
 use borrow.Author.Tests.{eqb-true, eqb-false}
 use Rattle.window.specs.Evaluation.{Evaluation}
 use Rattle.rules.specs.Accepted.{accept}
 use Rattle.rules.specs.Begin.{Begin, fresh}
-use Rattle.rules.specs.Calls.{Event, Call, sample, limit, measure, link, fault, clear, tick, isSample, inTurn}
+use Rattle.rules.specs.Calls.{Event, Call, sample, limit, measure, link, fault, clear, tick, evaluated, isSample, isFault, inTurn}
 use Rattle.rules.specs.EveryList.{Reached}
 use Rattle.rules.specs.Faults.{Fault, Faults, diode, overcurrent, residual, welded, temperature, numberOf, placeOf, isLatched, lowest, firstOf}
-use Rattle.rules.specs.FirstFault.{SomeLatched, none, some, CameBefore, latchedAt, Latches, LatchedSince, OrderKept, FirstLatched, first}
+use Rattle.rules.specs.FirstFault.{SomeLatched, none, some, CameBefore, eventAt, diodeBadAt, latchedAt, Latches, LatchedSince, OrderKept, FirstLatched, first}
 use Rattle.rules.specs.Replay.{isAccepted, replay}
 use Rattle.rules.specs.State.{State}
 use Rattle.rules.specs.Traces.{before, callAt, Accepts}
 use Rattle.rules.proofs.Booleans.{clash}
-use Rattle.rules.proofs.FaultsOfCall.{none-latched, two-behind, own-latched, own-only, one-only, clear-only, clear-drops, place-kept, comes-behind}
+use Rattle.rules.proofs.FaultsOfCall.{none-latched, two-behind, own-latched, own-only, one-latched, one-only, by-sample, clear-only, clear-drops, place-kept, comes-behind}
 use Rattle.rules.proofs.Latching.{is-place, some-place, number-fixes, same-fault}
 use Rattle.rules.proofs.Reaching.{list-reaches}
 use Rattle.rules.proofs.Stepped.{accepted-is, refused-is}
@@ -34,6 +35,36 @@ kindOf (link granted) = 0
 kindOf (fault kind) = kind
 kindOf clear = 0
 kindOf tick = 0
+
+-- a fault call and a clear are that also where windows are not evaluated
+fault-given : (event : Event (List ℤ)) (number : ℕ) → evaluated event ≡ fault number → event ≡ fault number
+unfolding evaluated
+fault-given (fault kind) number e = ap fault (ap kindOf e)
+fault-given (sample window) number e = clash (ap isFault e) refl
+fault-given (limit given) number e = clash (ap isFault e) refl
+fault-given (measure lines) number e = clash (ap isFault e) refl
+fault-given (link granted) number e = clash (ap isFault e) refl
+fault-given clear number e = clash (ap isFault e) refl
+fault-given tick number e = clash (ap isFault e) refl
+
+abbrev isClear : Event Evaluation → Bool
+isClear (sample window) = false
+isClear (limit given) = false
+isClear (measure lines) = false
+isClear (link granted) = false
+isClear (fault kind) = false
+isClear clear = true
+isClear tick = false
+
+clear-given : (event : Event (List ℤ)) → evaluated event ≡ clear → event ≡ clear
+unfolding evaluated
+clear-given clear e = refl
+clear-given (sample window) e = clash (ap isClear e) refl
+clear-given (limit given) e = clash (ap isClear e) refl
+clear-given (measure lines) e = clash (ap isClear e) refl
+clear-given (link granted) e = clash (ap isClear e) refl
+clear-given (fault kind) e = clash (ap isClear e) refl
+clear-given tick e = clash (ap isClear e) refl
 
 -- a fault that is neither 2 nor 1 is told by the host
 own-number : (f : Fault) → (f ≡ overcurrent → ⊥) → (f ≡ diode → ⊥) → 3 ≤ numberOf f
@@ -174,50 +205,58 @@ module _ (begin : Begin) (calls : List Call) where
         },
       )
 
-  -- 3, 4 and 5 come by their own fault call alone, and 1 by a sample
-  by-own : (k : ℕ) (f : Fault) → 3 ≤ numberOf f → Latches begin calls f k → callAt begin calls k .event ≡ fault (numberOf f)
+  -- 3, 4 and 5 come by their own fault call alone, and 1 by two diode-bad samples
+  by-own : (k : ℕ) (f : Fault) → 3 ≤ numberOf f → Latches begin calls f k → Accepts begin calls k × (eventAt begin calls k ≡ fault (numberOf f))
   by-own k f least now =
       let into = latching-is f k now in
-      own-only (before begin calls k) (callAt begin calls k) f least (now .not-yet) (on-after k (now .below) into f true (now .latched))
+      let is = own-only (before begin calls k) (callAt begin calls k) f least (now .not-yet) (on-after k (now .below) into f true (now .latched)) in
+      ((now .below, into), fault-given (eventAt begin calls k) (numberOf f) is)
 
-  by-sample : (k : ℕ) → Latches begin calls diode k → isSample (callAt begin calls k .event) ≡ true
-  by-sample k now =
+  by-two-bad : (k : ℕ) → Latches begin calls diode k → Accepts begin calls k × (diodeBadAt begin calls k ≡ true)
+  by-two-bad k now =
       let into = latching-is diode k now in
-      one-only (before begin calls k) (callAt begin calls k) (now .not-yet) (on-after k (now .below) into diode true (now .latched))
+      ((now .below, into), one-only (before begin calls k) (callAt begin calls k) (now .not-yet) (on-after k (now .below) into diode true (now .latched)))
 
   -- a fault is dropped by an accepted clear alone
   by-clear : (k : ℕ) (f : Fault) → k < length calls → latchedAt begin calls f k ≡ true → latchedAt begin calls f (suc k) ≡ false
-      → Accepts begin calls k × (callAt begin calls k .event ≡ clear)
+      → Accepts begin calls k × (eventAt begin calls k ≡ clear)
   by-clear k f below was gone = go (isAccepted (before begin calls k) (callAt begin calls k)) refl
     where
-      go : (a : Bool) → isAccepted (before begin calls k) (callAt begin calls k) ≡ a → Accepts begin calls k × (callAt begin calls k .event ≡ clear)
-      go true into = ((below, into), clear-only (before begin calls k) (callAt begin calls k) f was (on-after k below into f false gone))
+      go : (a : Bool) → isAccepted (before begin calls k) (callAt begin calls k) ≡ a → Accepts begin calls k × (eventAt begin calls k ≡ clear)
+      go true into =
+          let is = clear-only (before begin calls k) (callAt begin calls k) f was (on-after k below into f false gone) in
+          ((below, into), clear-given (eventAt begin calls k) is)
       go false out = clash (ap (λ x. isLatched (x .faults) f) (refused-is begin calls k below out) ∙ was) gone
 
   pub order-kept : OrderKept begin calls
+  unfolding evaluated
   order-kept =
       record {
         as-latched = λ k within. record { each-since = λ f. since f k within; as-they-came = in-the-order k within };
         own-latched = λ k f accepts is.
-            ap (λ x. isLatched x f) (after-is k (accepts .0) (accepts .1)) ∙ own-latched (before begin calls k) (callAt begin calls k) f (accepts .1) is;
+            ap (λ x. isLatched x f) (after-is k (accepts .0) (accepts .1)) ∙ own-latched (before begin calls k) (callAt begin calls k) f (accepts .1) (ap evaluated is);
         own-only = by-own;
-        one-only = by-sample;
+        one-latched = λ k accepts bad.
+            ap (λ x. isLatched x diode) (after-is k (accepts .0) (accepts .1)) ∙ one-latched (before begin calls k) (callAt begin calls k) bad;
+        one-only = by-two-bad;
         keeps-place = λ k f below. next-kept f k below;
         clear-only = by-clear;
         clear-empties = λ k f accepts is was.
-            ap (λ x. isLatched x f) (after-is k (accepts .0) (accepts .1) ∙ clear-drops (before begin calls k) (callAt begin calls k) (reached k) f is was)
+            ap (λ x. isLatched x f) (after-is k (accepts .0) (accepts .1) ∙ clear-drops (before begin calls k) (callAt begin calls k) (reached k) f (ap evaluated is) was)
             ∙ none-latched f;
       }
 
   -- of two faults that one call latches, one is 2
   one-is-two : (f g : Fault) (k : ℕ) → Latches begin calls f k → Latches begin calls g k → (g ≡ f → ⊥) → (g ≡ overcurrent) ⊎ (f ≡ overcurrent)
+  unfolding evaluated
   one-is-two f g k f-now g-now other = go (same-fault g overcurrent) (same-fault f overcurrent) (same-fault g diode) (same-fault f diode)
     where
       by-fault : (h : Fault) → Latches begin calls h k → (h ≡ overcurrent → ⊥) → (h ≡ diode → ⊥) → callAt begin calls k .event ≡ fault (numberOf h)
-      by-fault h now not-two not-one = by-own k h (own-number h not-two not-one) now
+      by-fault h now not-two not-one = ap evaluated (by-own k h (own-number h not-two not-one) now .1)
 
       sampled : (h : Fault) → Latches begin calls h k → h ≡ diode → isSample (callAt begin calls k .event) ≡ true
-      sampled h now is = by-sample k (subst (λ x. Latches begin calls x k) is now)
+      sampled h now is =
+          by-sample (before begin calls k) (callAt begin calls k) (by-two-bad k (subst (λ x. Latches begin calls x k) is now) .1)
 
       go : Dec (g ≡ overcurrent) → Dec (f ≡ overcurrent) → Dec (g ≡ diode) → Dec (f ≡ diode) → (g ≡ overcurrent) ⊎ (f ≡ overcurrent)
       go (yes is) b c d = inl is

@@ -14,8 +14,8 @@ use Rattle.rules.specs.Replay.{isAccepted, replay}
 use Rattle.rules.specs.State.{State, available}
 use Rattle.rules.specs.Step3Wave.{unventilatedD}
 use Rattle.rules.proofs.Booleans.{clash}
-use Rattle.rules.proofs.FaultsOfCall.{keeps-order}
-use Rattle.rules.proofs.Latching.{none-each-once}
+use Rattle.rules.proofs.FaultsOfCall.{none-latched, keeps-order}
+use Rattle.rules.proofs.Latching.{latched-any, any-latched, none-each-once}
 use Rattle.rules.proofs.Lists.{replay-keeps}
 use Rattle.rules.proofs.Samples.{fits}
 use Rattle.rules.proofs.Offering.{offered, wave-low-exactly, wave-kinds, driven-greatest, driven-five, driven-offers}
@@ -37,7 +37,10 @@ invariant-holds s call into was =
     let closed = left-closed s call into (was .previous) (before .closed-ready) in
     record {
       reached = record {
-        wave-low = wave-low-exactly s call;
+        wave-low = (
+          λ low. any-latched (accept s call .faults) (wave-low-exactly s call .0 low),
+          λ some. wave-low-exactly s call .1 (latched-any (accept s call .faults) (some .0) (some .1)),
+        );
         wave-kinds = wave-kinds s call;
         driven-greatest = driven-greatest s call;
         driven-five = driven-five s call;
@@ -73,7 +76,7 @@ unfolding fresh anyFault
 fresh-invariant begin =
     record {
       reached = record {
-        wave-low = (λ e. absurd (omega arith), λ e. clash refl (sym e));
+        wave-low = (λ e. absurd (omega arith), λ some. clash (some .1) (none-latched (some .0)));
         wave-kinds = inr (inl refl);
         driven-greatest = λ plain e. clash e (high-not-driven (begin .digital));
         driven-five = λ digital e. clash e (high-not-driven (begin .digital));

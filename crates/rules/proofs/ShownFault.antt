@@ -5,9 +5,8 @@ use Prim.Native.Nat.{ℕ}
 use native.Mathlib.Omega.{arith}
 use lib.Dec.{eqb}
 use borrow.Author.Tests.{eqb-true}
-use Rattle.rules.specs.Calls.{fault}
 use Rattle.rules.specs.Faults.{Fault, Faults, diode, overcurrent, residual, welded, temperature, numberOf, placeOf, isLatched, lowestOf, lowest, firstOf}
-use Rattle.rules.specs.FirstFault.{SomeLatched, none, some, first}
+use Rattle.rules.specs.FirstFault.{SomeLatched, none, some}
 use Rattle.rules.proofs.Latching.{is-place}
 
 -- the lowest of those whose test comes out true, or the other number

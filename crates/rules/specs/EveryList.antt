@@ -12,7 +12,7 @@ use Rattle.rules.specs.Begin.{Begin, pauseFor, fresh}
 use Rattle.rules.specs.Calls.{Call}
 use Rattle.rules.specs.Claim.{leastPause, Demand3}
 use Rattle.rules.specs.Every20.{ClosedIsSound}
-use Rattle.rules.specs.Faults.{anyFault}
+use Rattle.rules.specs.Faults.{Fault, isLatched, anyFault}
 use Rattle.rules.specs.FirstFault.{EachOnce, OrderKept, FirstLatched}
 use Rattle.rules.specs.LastGranted.{LastGranted}
 use Rattle.rules.specs.LastMeasured.{LastMeasured}
@@ -25,7 +25,7 @@ use Rattle.rules.specs.Traces.{before, callAt, lentAt, replyBefore, answ
 -- what is true of every state that a list leads to
 pub record Reached (s : State) : Type 0 where
   -- the wave: steady -12 V exactly under a fault, else steady +12 V or driven
-  pub wave-low : (s .wave ≡ steadyLow) ↔ (anyFault (s .faults) ≡ true)
+  pub wave-low : (s .wave ≡ steadyLow) ↔ ((f : Fault) × (isLatched (s .faults) f ≡ true))
   pub wave-kinds : (s .wave ≡ steadyLow) ⊎ ((s .wave ≡ steadyHigh) ⊎ (isDriven s ≡ true))
   -- driven, it is the greatest allowed duty for the lesser of rated and limit in a plain post (demand 2), and 5 % in a digital one
   pub driven-greatest : s .settings .digital ≡ false → isDriven s ≡ true → IsGreatest (available s) (s .wave)
