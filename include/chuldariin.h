@@ -86,8 +86,9 @@ enum {
     CHULDARIIN_REFUSED_READING = 5,
     /* No reading has 8 readings, itself counted, within 200 mV. The pilot line is too noisy. */
     CHULDARIIN_REFUSED_UNSUPPORTED = 6,
-    /* A limit is above 80,000 mA, or a measured current, on any line, above 200,000 mA. */
-    CHULDARIIN_REFUSED_CURRENT = 7,
+    /* A measured current, on any line, is above 200,000 mA, and none of the three is kept. Ask the meter:
+     * is the unit milliamps? A limit has a number of its own, 13. */
+    CHULDARIIN_REFUSED_MEASURE = 7,
     /* A fault's kind is not 3, 4 or 5. Faults 1 and 2 are the controller's own. */
     CHULDARIIN_REFUSED_KIND = 8,
     /* chuldariin_reading: the duty is above 1000. */
@@ -97,7 +98,10 @@ enum {
     /* A grant is above 80,000 mA. */
     CHULDARIIN_REFUSED_GRANT = 11,
     /* A link call to a post that was begun plain. Begin it digital, or leave the link out. */
-    CHULDARIIN_REFUSED_PLAIN = 12
+    CHULDARIIN_REFUSED_PLAIN = 12,
+    /* A limit is above 80,000 mA, and the limit before it stays. Ask the load manager: is the unit
+     * milliamps? */
+    CHULDARIIN_REFUSED_LIMIT = 13
 };
 
 /* The faults. */
@@ -182,7 +186,7 @@ struct chuldariin_controller {
     struct chuldariin_lines lines;       /* the currents of the last accepted measure */
 };
 
-/* What a call tells. Beside refusals 1 to 8, 11 and 12 stands the rest as the controller has it; a refused
+/* What a call tells. Beside refusals 1 to 8 and 11 to 13 stands the rest as the controller has it; a refused
  * begin has zeros there.
  * It has 28 bytes, so a call returns it in memory, at an address that the caller passes first and C
  * hides; the 16 bytes of a version without `lines` came back in two registers. A host that was compiled
@@ -268,7 +272,7 @@ struct chuldariin_reply chuldariin_sample(struct chuldariin_controller *c, uint6
 /* The depot's limit, 0 to 80,000 mA. It acts in this call: nothing is delayed. Below 6,000 no wave is
  * driven, and a closed contactor opens once that has lasted 3 s. A limit that lowers the duty gives the
  * van 5 s to follow: see measure_lines. In a digital post the wave tells the van of no limit: agree less
- * over the link first. Refused: 3, 2, 1, 7. */
+ * over the link first. Refused: 3, 2, 1, 13. */
 struct chuldariin_reply chuldariin_limit(struct chuldariin_controller *c, uint64_t time, uint32_t current);
 
 /* The current measured on each line, 0 to 200,000 mA; a line that the van does not use has 0. All three

@@ -263,11 +263,11 @@ static void each_refusal(void) {
     for (int i = 0; i < 256; i++)
         readings[i] = -15000 + (i % 100) * 300;
     refused(chuldariin_sample(&c, 50, readings, 256), CHULDARIIN_REFUSED_UNSUPPORTED, &before, &c);
-    refused(chuldariin_limit(&c, 50, 80001), CHULDARIIN_REFUSED_CURRENT, &before, &c);
-    refused(chuldariin_measure(&c, 50, 200001), CHULDARIIN_REFUSED_CURRENT, &before, &c);
-    refused(chuldariin_measure_lines(&c, 50, 200001, 1, 2), CHULDARIIN_REFUSED_CURRENT, &before, &c);
-    refused(chuldariin_measure_lines(&c, 50, 1, 200001, 2), CHULDARIIN_REFUSED_CURRENT, &before, &c);
-    refused(chuldariin_measure_lines(&c, 50, 1, 2, 200001), CHULDARIIN_REFUSED_CURRENT, &before, &c);
+    refused(chuldariin_limit(&c, 50, 80001), CHULDARIIN_REFUSED_LIMIT, &before, &c);
+    refused(chuldariin_measure(&c, 50, 200001), CHULDARIIN_REFUSED_MEASURE, &before, &c);
+    refused(chuldariin_measure_lines(&c, 50, 200001, 1, 2), CHULDARIIN_REFUSED_MEASURE, &before, &c);
+    refused(chuldariin_measure_lines(&c, 50, 1, 200001, 2), CHULDARIIN_REFUSED_MEASURE, &before, &c);
+    refused(chuldariin_measure_lines(&c, 50, 1, 2, 200001), CHULDARIIN_REFUSED_MEASURE, &before, &c);
     refused(chuldariin_fault(&c, 50, 2), CHULDARIIN_REFUSED_KIND, &before, &c);
     refused(chuldariin_link(&c, 50, 80001), CHULDARIIN_REFUSED_PLAIN, &before, &c);
 
@@ -281,6 +281,23 @@ static void each_refusal(void) {
 
     EXPECT(chuldariin_reading(1001).refusal == CHULDARIIN_REFUSED_DUTY);
     EXPECT(chuldariin_duty(5999).refusal == CHULDARIIN_REFUSED_TOO_LOW);
+}
+
+/* Limit and measure are told separately: 13 for a limit, behind 3, 2 and 1, and 7 for a measure. A
+ * controller that is lent with such a limit is refused by 1. */
+static void limit_refused(controller c) {
+    const controller before = c;
+    refused(chuldariin_limit(&c, 50, 80001), CHULDARIIN_REFUSED_LIMIT, &before, &c);
+    refused(chuldariin_limit(&c, 50, 200001), CHULDARIIN_REFUSED_LIMIT, &before, &c);
+    refused(chuldariin_limit(&c, 50, UINT32_MAX), CHULDARIIN_REFUSED_LIMIT, &before, &c);
+    refused(chuldariin_limit(&c, 39, 80001), CHULDARIIN_REFUSED_EARLIER, &before, &c);
+    refused(chuldariin_limit(&c, 1000000000001u, 80001), CHULDARIIN_REFUSED_LATE, &before, &c);
+    refused(chuldariin_measure(&c, 50, UINT32_MAX), CHULDARIIN_REFUSED_MEASURE, &before, &c);
+    EXPECT(chuldariin_measure(&c, 50, 80001).refusal == CHULDARIIN_ACCEPTED);
+    EXPECT(chuldariin_limit(&c, 50, 80000).refusal == CHULDARIIN_ACCEPTED && c.limit == 80000);
+    c.limit = 80001;
+    EXPECT(chuldariin_limit(&c, 50, 80001).refusal == CHULDARIIN_REFUSED_SETTINGS);
+    EXPECT(chuldariin_measure(&c, 50, 200001).refusal == CHULDARIIN_REFUSED_SETTINGS && c.limit == 80001);
 }
 
 static void before_any_begin(void) {
@@ -312,6 +329,8 @@ int main(void) {
     lines_shown();
     digital_posts();
     each_refusal();
+    limit_refused(charging());
+    limit_refused(linked(16000));
     before_any_begin();
     duties();
     puts(wrong ? "cycle.c: something differs" : "cycle.c: a charging cycle and each refusal, as they should be");

@@ -119,13 +119,15 @@ fn window_refusal(window: Evaluated) -> u8
     }
 }
 
+// 13: a limit above 80,000.
 fn limit_refusal(current: Milliamps) -> u8
-    ensures { λ r. ⌜ r ≡ cond (limitAllowed (current .0)) 0 7 ⌝ }
+    ensures { λ r. ⌜ r ≡ cond (limitAllowed (current .0)) 0 13 ⌝ }
 {
     let allowed = limit_allowed(current);
-    number_unless(allowed, 7)
+    number_unless(allowed, 13)
 }
 
+// 7: a measure with a line above 200,000.
 fn measure_refusal(lines: Lines) -> u8
     ensures { λ r. ⌜ r ≡ cond (linesAllowed (asLines lines)) 0 7 ⌝ }
 {
@@ -133,6 +135,7 @@ fn measure_refusal(lines: Lines) -> u8
     number_unless(allowed, 7)
 }
 
+// 8: a fault call of another kind than 3, 4 and 5.
 fn kind_refusal(kind: u32) -> u8
     ensures { λ r. ⌜ r ≡ cond (kindAllowed kind) 0 8 ⌝ }
 {
@@ -158,7 +161,7 @@ fn link_refusal(digital: bool, granted: Milliamps) -> u8
     link_number(digital, allowed)
 }
 
-// 4 to 8, 11 and 12: for the arguments, in a post of this mark.
+// 4 to 8, and 11 to 13: for the arguments, in a post of this mark.
 pub fn argument_refusal(digital: bool, event: Event) -> u8
     ensures { λ r. ⌜ r ≡ argumentRefusal digital (asEvent event) ⌝ }
 {

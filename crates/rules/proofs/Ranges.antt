@@ -112,7 +112,7 @@ module _ (s : State) (call : EvaluatedCall) where
   limit-right : (event : Event Evaluation) → argumentRefusal (s .settings .digital) event ≡ 0 → limitAllowed (s .limit) ≡ true → limitAllowed (limitBy event (s .limit)) ≡ true
   unfolding limitBy argumentRefusal
   limit-right (sample window) e p = p
-  limit-right (limit given) e p = not-refused (limitAllowed given) 7 (omega arith) e
+  limit-right (limit given) e p = not-refused (limitAllowed given) 13 (omega arith) e
   limit-right (measure lines) e p = p
   limit-right (link granted) e p = p
   limit-right (fault kind) e p = p

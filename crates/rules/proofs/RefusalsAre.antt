@@ -1,5 +1,5 @@
 -- When each refusal number comes, exactly.
-use mathlib.Core.Path.{_≡_, refl, sym, _∙_, ap}
+use mathlib.Core.Path.{_≡_, refl, sym, _∙_, ap, subst}
 use mathlib.Core.Bool.{Bool, true, false, _&&_, cond}
 use mathlib.Core.List.{List}
 use mathlib.Core.Logic.{_↔_, _⊎_, inl, inr}
@@ -16,7 +16,7 @@ use Rattle.rules.specs.Begin.{largestTime}
 use Rattle.rules.specs.Calls.{Event, Call, sample, limit, measure, link, fault, clear, tick, evaluated, evaluatedCall}
 use Rattle.rules.specs.Lent.{Lent, altered, lentRefusal}
 use Rattle.rules.specs.Lines.{Lines, lineAllowed, linesAllowed}
-use Rattle.rules.specs.RefusalsAre.{Altered, OnTime, ArgumentsAsked, AnyLineAbove, WrongFor, RefusedBy}
+use Rattle.rules.specs.RefusalsAre.{Altered, OnTime, ArgumentsAsked, AnyLineAbove, WrongFor, MeasureAbove, measured, LimitAbove, limited, RefusedBy}
 use Rattle.rules.specs.Refusals.{orElse, timeRefusal, windowRefusal, kindAllowed, limitAllowed, grantAllowed, linkRefusal, argumentRefusal}
 use Rattle.rules.proofs.Altered.{altered-exactly}
 use Rattle.rules.proofs.Booleans.{clash}
@@ -105,16 +105,16 @@ arguments digital (sample window) n big = (
   λ e. refused-exactly window n .0 (refused-with (evaluate window) n big .0 e),
   λ wrong. refused-with (evaluate window) n big .1 (refused-exactly window n .1 wrong),
 )
-arguments digital (limit current) n big = refused-if (leb current 80000) 7 n (80000 < current) (above-exactly current 80000) big
+arguments digital (limit current) n big = refused-if (leb current 80000) 13 n (80000 < current) (above-exactly current 80000) big
 arguments digital (measure lines) n big = refused-if (linesAllowed lines) 7 n (AnyLineAbove lines) (any-line-exactly lines) big
 arguments digital (link granted) n big = link-exactly digital granted n big
 arguments digital (fault kind) n big = refused-if (fromTo 3 5 kind) 8 n (Outside 3 5 kind) (outside-exactly 3 5 kind) big
 arguments digital clear n big = (λ e. absurd (omega arith), λ e. absurd e)
 arguments digital tick n big = (λ e. absurd (omega arith), λ e. absurd e)
 
--- it is 0 or one of 4 to 8, 11 and 12
+-- it is 0 or one of 4 to 8 and 11 to 13
 abbrev Numbered : ℕ → Type 0
-Numbered n = (4 ≤ n) × ((n ≤ 8) ⊎ ((n ≡ 11) ⊎ (n ≡ 12)))
+Numbered n = (4 ≤ n) × ((n ≤ 8) ⊎ ((11 ≤ n) × (n ≤ 13)))
 
 abbrev Known : ℕ → Type 0
 Known n = (n ≡ 0) ⊎ Numbered n
@@ -127,10 +127,10 @@ wrong-number : (digital : Bool) (event : Event (List ℤ)) (n : ℕ) → WrongFo
 wrong-number digital (sample window) n (inl (is, out)) = (omega arith, inl (omega arith))
 wrong-number digital (sample window) n (inr (inl (is, one))) = (omega arith, inl (omega arith))
 wrong-number digital (sample window) n (inr (inr (is, none))) = (omega arith, inl (omega arith))
-wrong-number digital (limit current) n (is, out) = (omega arith, inl (omega arith))
+wrong-number digital (limit current) n (is, out) = (omega arith, inr (omega arith, omega arith))
 wrong-number digital (measure lines) n (is, out) = (omega arith, inl (omega arith))
-wrong-number digital (link granted) n (inl (is, plain)) = (omega arith, inr (inr is))
-wrong-number digital (link granted) n (inr (is, marked, above)) = (omega arith, inr (inl is))
+wrong-number digital (link granted) n (inl (is, plain)) = (omega arith, inr (omega arith, omega arith))
+wrong-number digital (link granted) n (inr (is, marked, above)) = (omega arith, inr (omega arith, omega arith))
 wrong-number digital (fault kind) n (is, out) = (omega arith, inl (omega arith))
 wrong-number digital clear n none = absurd none
 wrong-number digital tick n none = absurd none
@@ -142,13 +142,38 @@ window-number window (refused number) e = inr (wrong-number true (sample window)
 argument-number : (digital : Bool) (event : Event (List ℤ)) → Known (argumentRefusal digital (evaluated event))
 unfolding evaluated argumentRefusal linkRefusal
 argument-number digital (sample window) = window-number window (evaluate window) refl
-argument-number digital (limit current) = known-if (limitAllowed current) 7 (omega arith, inl (omega arith))
+argument-number digital (limit current) = known-if (limitAllowed current) 13 (omega arith, inr (omega arith, omega arith))
 argument-number digital (measure lines) = known-if (linesAllowed lines) 7 (omega arith, inl (omega arith))
-argument-number true (link granted) = known-if (grantAllowed granted) 11 (omega arith, inr (inl refl))
-argument-number false (link granted) = inr (omega arith, inr (inr refl))
+argument-number true (link granted) = known-if (grantAllowed granted) 11 (omega arith, inr (omega arith, omega arith))
+argument-number false (link granted) = inr (omega arith, inr (omega arith, omega arith))
 argument-number digital (fault kind) = known-if (kindAllowed kind) 8 (omega arith, inl (omega arith))
 argument-number digital clear = inl refl
 argument-number digital tick = inl refl
+
+-- 7 is a measure's and 13 a limit's: no other call is wrong by these numbers
+told : (digital : Bool) (event : Event (List ℤ)) (n : ℕ) → WrongFor n digital event → (n ≡ 7 → MeasureAbove event) × (n ≡ 13 → LimitAbove event)
+told digital (sample window) n (inl (is, out)) = (λ e. absurd (omega arith), λ e. absurd (omega arith))
+told digital (sample window) n (inr (inl (is, one))) = (λ e. absurd (omega arith), λ e. absurd (omega arith))
+told digital (sample window) n (inr (inr (is, none))) = (λ e. absurd (omega arith), λ e. absurd (omega arith))
+told digital (limit current) n (is, above) = (λ e. absurd (omega arith), λ e. limited current refl above)
+told digital (measure lines) n (is, above) = (λ e. measured lines refl above, λ e. absurd (omega arith))
+told digital (link granted) n (inl (is, plain)) = (λ e. absurd (omega arith), λ e. absurd (omega arith))
+told digital (link granted) n (inr (is, marked, above)) = (λ e. absurd (omega arith), λ e. absurd (omega arith))
+told digital (fault kind) n (is, out) = (λ e. absurd (omega arith), λ e. absurd (omega arith))
+told digital clear n none = absurd none
+told digital tick n none = absurd none
+
+seven-for : (digital : Bool) (event : Event (List ℤ)) → WrongFor 7 digital event ↔ MeasureAbove event
+seven-for digital event = (λ wrong. told digital event 7 wrong .0 refl, from)
+  where
+    from : MeasureAbove event → WrongFor 7 digital event
+    from (measured lines is above) = subst (WrongFor 7 digital) (sym is) (refl, above)
+
+thirteen-for : (digital : Bool) (event : Event (List ℤ)) → WrongFor 13 digital event ↔ LimitAbove event
+thirteen-for digital event = (λ wrong. told digital event 13 wrong .1 refl, from)
+  where
+    from : LimitAbove event → WrongFor 13 digital event
+    from (limited current is above) = subst (WrongFor 13 digital) (sym is) (refl, above)
 
 module _ (lent : Lent) (call : Call) where
   -- a number from 1 to 3 is not that of the arguments
@@ -167,6 +192,8 @@ module _ (lent : Lent) (call : Call) where
         two = (λ e. two (way lent call) e, λ h. two-back (way lent call) h);
         one = (λ e. one (way lent call) e, λ h. one-back (way lent call) h);
         later = λ n big. (λ e. later n big (way lent call) e, λ h. later-back n big (way lent call) h);
+        seven = through 7 (omega arith) (seven-for (lent .state .settings .digital) (call .event));
+        thirteen = through 13 (omega arith) (thirteen-for (lent .state .settings .digital) (call .event));
         none = (λ e. none (way lent call) e, λ h. none-back (way lent call) (argument-number (lent .state .settings .digital) (call .event)) h);
         no-other = few (way lent call) (argument-number (lent .state .settings .digital) (call .event));
       }
@@ -219,6 +246,13 @@ module _ (lent : Lent) (call : Call) where
       later-back n big (changed is h k) all = absurd (all .0 .1 k)
       later-back n big (judged is h) all = is ∙ arguments (lent .state .settings .digital) (call .event) n big .1 (all .1)
 
+      -- what else one number's condition means
+      through : (n : ℕ) → 4 ≤ n → {X : Type 0} → WrongFor n (lent .state .settings .digital) (call .event) ↔ X → (lentRefusal lent (evaluatedCall call) ≡ n) ↔ (ArgumentsAsked lent call × X)
+      through n big means = (
+        λ e. let both = later n big (way lent call) e in (both .0, means .0 (both .1)),
+        λ both. later-back n big (way lent call) (both .0, means .1 (both .1)),
+      )
+
       none : Way lent call → lentRefusal lent (evaluatedCall call) ≡ 0 → ArgumentsAsked lent call × ((n : ℕ) → WrongFor n (lent .state .settings .digital) (call .event) → ⊥)
       none (late is h) e = absurd (omega arith)
       none (early is h k) e = absurd (omega arith)
@@ -240,11 +274,10 @@ module _ (lent : Lent) (call : Call) where
       none-back (judged is h) (inr big) all = absurd (all .1 _ (arguments (lent .state .settings .digital) (call .event) _ (big .0) .0 refl))
 
       few : Way lent call → Known (argumentRefusal (lent .state .settings .digital) (evaluated (call .event)))
-          → (lentRefusal lent (evaluatedCall call) ≤ 8) ⊎ ((lentRefusal lent (evaluatedCall call) ≡ 11) ⊎ (lentRefusal lent (evaluatedCall call) ≡ 12))
+          → (lentRefusal lent (evaluatedCall call) ≤ 8) ⊎ ((11 ≤ lentRefusal lent (evaluatedCall call)) × (lentRefusal lent (evaluatedCall call) ≤ 13))
       few (late is h) number = inl (omega arith)
       few (early is h k) number = inl (omega arith)
       few (changed is h k) number = inl (omega arith)
       few (judged is h) (inl zero) = inl (omega arith)
       few (judged is h) (inr (big, inl small)) = inl (omega arith)
-      few (judged is h) (inr (big, inr (inl eleven))) = inr (inl (is ∙ eleven))
-      few (judged is h) (inr (big, inr (inr twelve))) = inr (inr (is ∙ twelve))
+      few (judged is h) (inr (big, inr (from, to))) = inr (omega arith, omega arith)

@@ -1,5 +1,5 @@
--- What is refused in a list (document 01, "What a refused call hands back"; 11 and 12: document 02, e): 3, then 2, then by number, but 12 before 11; 0 if
--- the call is accepted.
+-- What is refused in a list (document 01, "What a refused call hands back"; 11 and 12: document 02, e; 13: document 02, g): 3, then 2, then by number, but
+-- 12 before 11; 0 if the call is accepted.
 use mathlib.Core.Bool.{Bool, cond}
 use Prim.Native.Nat.{ℕ}
 use lib.Dec.{eqb, leb, ltb}
@@ -39,10 +39,10 @@ grantAllowed granted = leb granted 80000
 unfoldable pub linkRefusal : Bool → ℕ → ℕ
 linkRefusal digital granted = cond digital (cond (grantAllowed granted) 0 11) 12
 
--- 4 to 8, 11 and 12: for the arguments, in a post of this mark
+-- 4 to 8, and 11 to 13: for the arguments, in a post of this mark. A limit has a number of its own, 13, and 7 is a measure's (document 02, g)
 unfoldable pub argumentRefusal : Bool → Event Evaluation → ℕ
 argumentRefusal digital (sample window) = windowRefusal window
-argumentRefusal digital (limit current) = cond (limitAllowed current) 0 7
+argumentRefusal digital (limit current) = cond (limitAllowed current) 0 13
 argumentRefusal digital (measure lines) = cond (linesAllowed lines) 0 7
 argumentRefusal digital (link granted) = linkRefusal digital granted
 argumentRefusal digital (fault kind) = cond (kindAllowed kind) 0 8

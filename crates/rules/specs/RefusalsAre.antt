@@ -56,22 +56,33 @@ AnyLineAbove lines = (200000 < lines .line1) ⊎ ((200000 < lines .line2) ⊎ (2
 -- the numbers by which each kind of call to a post of this mark is refused for its arguments, and what each is for
 abbrev pub WrongFor : ℕ → Bool → Event (List ℤ) → Type 0
 WrongFor number digital (sample window) = RefusedFor number window
-WrongFor number digital (limit current) = (number ≡ 7) × (80000 < current)
+WrongFor number digital (limit current) = (number ≡ 13) × (80000 < current)
 WrongFor number digital (measure lines) = (number ≡ 7) × AnyLineAbove lines
 WrongFor number digital (link granted) = ((number ≡ 12) × (digital ≡ false)) ⊎ ((number ≡ 11) × (digital ≡ true) × (80000 < granted))
 WrongFor number digital (fault kind) = (number ≡ 8) × Outside 3 5 kind
 WrongFor number digital clear = ⊥
 WrongFor number digital tick = ⊥
 
+-- the call is a measure, and the current on any of its lines is above 200,000
+pub data MeasureAbove (event : Event (List ℤ)) : Type 0 where
+  measured : (lines : Lines) → event ≡ measure lines → AnyLineAbove lines → MeasureAbove event
+
+-- the call is a limit above 80,000
+pub data LimitAbove (event : Event (List ℤ)) : Type 0 where
+  limited : (current : ℕ) → event ≡ limit current → 80000 < current → LimitAbove event
+
 -- the number that a call gets for a lent controller: each for its condition and for nothing else, and 0 if none of the conditions holds.
--- From 4 on they are those of the arguments: `WrongFor` has 4, 5 and 6 for a window, 7, 8, 11 and 12. 9 and 10 are no call's.
+-- From 4 on they are those of the arguments: `WrongFor` has 4, 5 and 6 for a window, 7, 8, and 11 to 13. 9 and 10 are no call's.
 pub record RefusedBy (lent : Lent) (call : Call) (number : ℕ) : Type 0 where
   pub three : (number ≡ 3) ↔ (largestTime < call .time)
   pub two : (number ≡ 2) ↔ ((call .time ≤ largestTime) × (call .time < lent .state .last))
   pub one : (number ≡ 1) ↔ (OnTime lent call × Altered lent)
   pub later : (n : ℕ) → 4 ≤ n → (number ≡ n) ↔ (ArgumentsAsked lent call × WrongFor n (lent .state .settings .digital) (call .event))
+  -- limit and measure told separately (document 02, g): 7 is for the meter team, 13 for the load team
+  pub seven : (number ≡ 7) ↔ (ArgumentsAsked lent call × MeasureAbove (call .event))
+  pub thirteen : (number ≡ 13) ↔ (ArgumentsAsked lent call × LimitAbove (call .event))
   pub none : (number ≡ 0) ↔ (ArgumentsAsked lent call × ((n : ℕ) → WrongFor n (lent .state .settings .digital) (call .event) → ⊥))
-  pub no-other : (number ≤ 8) ⊎ ((number ≡ 11) ⊎ (number ≡ 12))
+  pub no-other : (number ≤ 8) ⊎ ((11 ≤ number) × (number ≤ 13))
 
 -- what begin is refused for by 1: a rated current, or a pause other than 0, that is out of its range
 abbrev pub SettingsOut : Begin → Type 0

@@ -24,8 +24,8 @@ pub enum Refusal {
     Reading,
     /// 6: no supported reading.
     Unsupported,
-    /// 7: a limit or a measured current out of range.
-    Current,
+    /// 7: a measured current out of range.
+    Measure,
     /// 8: a fault that is not for the host to tell.
     Kind,
     /// 9: a duty above the scale.
@@ -36,21 +36,24 @@ pub enum Refusal {
     Grant,
     /// 12: a link call to a plain post.
     Plain,
+    /// 13: a limit out of range.
+    Limit,
 }
 
-const ALL: [Refusal; 12] = [
+const ALL: [Refusal; 13] = [
     Refusal::Settings,
     Refusal::Earlier,
     Refusal::Late,
     Refusal::Length,
     Refusal::Reading,
     Refusal::Unsupported,
-    Refusal::Current,
+    Refusal::Measure,
     Refusal::Kind,
     Refusal::Duty,
     Refusal::TooLow,
     Refusal::Grant,
     Refusal::Plain,
+    Refusal::Limit,
 ];
 
 impl Refusal {
@@ -83,12 +86,13 @@ impl Refusal {
             Refusal::Unsupported => {
                 "no reading has 8 readings, itself counted, within 200 mV: look for noise on the pilot line, and tick for this one"
             }
-            Refusal::Current => "give a limit up to 80,000 mA, or measured currents up to 200,000 mA each: is the unit milliamps?",
+            Refusal::Measure => "give measured currents up to 200,000 mA each: is the meter's unit milliamps?",
             Refusal::Kind => "tell residual current (3), welded contact (4) or over-temperature (5): the controller finds 1 and 2 itself",
             Refusal::Duty => "ask for a duty up to 1000: the unit is a tenth of a percent",
             Refusal::TooLow => "ask for 6,000 mA or more: no duty announces less",
             Refusal::Grant => "give a grant up to 80,000 mA: is the unit milliamps?",
             Refusal::Plain => "this post was begun plain, and takes no grant: begin it digital, or leave the link out",
+            Refusal::Limit => "give a limit up to 80,000 mA: is the load manager's unit milliamps?",
         }
     }
 }

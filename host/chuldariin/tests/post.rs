@@ -61,13 +61,11 @@ fn every_refusal_leaves_the_controller_alone() {
         (Refusal::Length, &|p| p.sample(Millis(50), &[0; 255])),
         (Refusal::Reading, &|p| p.sample(Millis(50), &[-15_001; 256])),
         (Refusal::Unsupported, &|p| p.sample(Millis(50), &uneven)),
-        (Refusal::Current, &|p| {
-            p.limit(Millis(50), Milliamps(80_001))
-        }),
-        (Refusal::Current, &|p| {
+        (Refusal::Limit, &|p| p.limit(Millis(50), Milliamps(80_001))),
+        (Refusal::Measure, &|p| {
             p.measure(Millis(50), Milliamps(200_001))
         }),
-        (Refusal::Current, &|p| {
+        (Refusal::Measure, &|p| {
             p.measure_lines(Millis(50), [0, 0, 200_001].map(Milliamps))
         }),
         (Refusal::Plain, &|p| p.link(Millis(50), Milliamps(80_001))),
@@ -187,12 +185,12 @@ fn the_first_latched_fault_is_told() {
 
 #[test]
 fn each_number_has_its_refusal_and_each_refusal_its_advice() {
-    for number in 1..=12 {
-        let refusal = Refusal::of(number).expect("twelve refusals");
+    for number in 1..=13 {
+        let refusal = Refusal::of(number).expect("thirteen refusals");
         assert_eq!(refusal.number(), number);
         assert!(refusal
             .to_string()
             .starts_with(&format!("refused {number}: ")));
     }
-    assert_eq!((Refusal::of(0), Refusal::of(13)), (None, None));
+    assert_eq!((Refusal::of(0), Refusal::of(14)), (None, None));
 }

@@ -23,6 +23,9 @@ impl Spacing {
     }
 }
 
+/// The refusals' numbers, from 0 on.
+const NUMBERS: usize = REFUSALS[REFUSALS.len() - 1].0 + 1;
+
 /// Counts over a log.
 #[derive(Default)]
 pub struct Summary {
@@ -34,7 +37,7 @@ pub struct Summary {
     several: u64,
     causes: [u64; 5],
     /// By number; no call is refused 0, 9 or 10.
-    refusals: [u64; 13],
+    refusals: [u64; NUMBERS],
     /// How often others came behind a fault, by its number; 0 is no fault.
     firsts: [u64; 6],
     last_closing: Option<u64>,

@@ -30,17 +30,18 @@ pub const CAUSES: [&str; 5] = [
 pub const NUMERALS: [&str; 5] = ["i", "ii", "iii", "iv", "v"];
 
 /// Each refusal that a call can get: its number, and what it means.
-pub const REFUSALS: [(usize, &str); 10] = [
+pub const REFUSALS: [(usize, &str); 11] = [
     (1, "settings out of range, or nothing has begun"),
     (2, "the time is before the last accepted call"),
     (3, "the time is above 1,000,000,000,000 ms"),
     (4, "the window's length"),
     (5, "a reading out of range"),
     (6, "no supported reading"),
-    (7, "a limit or a measured current too large"),
+    (7, "a measured current too large: look at the meter"),
     (8, "a fault that is not for the host to tell"),
     (11, "a grant too large"),
     (12, "a link call to a plain post"),
+    (13, "a limit too large: look at the load manager"),
 ];
 
 /// A number with a comma before each three digits.
@@ -175,6 +176,10 @@ pub fn call(turn: &Turn) -> String {
     }
 }
 
+/// What refusal 7 comes for.
+const MEASURE_RULE: &str =
+    "a measured current is at most 200,000 mA; check the meter's unit: milliamps";
+
 /// Why a refused call was refused.
 pub fn refusal(turn: &Turn) -> String {
     match (turn.reply.refusal, turn.call) {
@@ -195,13 +200,15 @@ pub fn refusal(turn: &Turn) -> String {
         (6, _) => {
             format!("no reading has {ENOUGH} readings, itself counted, within {NEAR} mV")
         }
-        (7, Call::Limit(..)) => "a limit is at most 80,000 mA".to_string(),
-        (7, Call::MeasureLines(_, lines)) => above(lines),
-        (7, _) => "a measured current is at most 200,000 mA".to_string(),
+        (7, Call::MeasureLines(_, lines)) => format!("{}: {MEASURE_RULE}", above(lines)),
+        (7, _) => MEASURE_RULE.to_string(),
         (8, _) => "the host may tell faults 3, 4 and 5".to_string(),
         (11, _) => "a grant is at most 80,000 mA; check the unit: milliamps".to_string(),
         (12, _) => {
             "a plain post takes no grant: begin it digital, or leave the link out".to_string()
+        }
+        (13, _) => {
+            "a limit is at most 80,000 mA; check the load manager's unit: milliamps".to_string()
         }
         (number, _) => format!("refusal {number}"),
     }
@@ -225,8 +232,7 @@ fn above(lines: &[u32; 3]) -> String {
     let words: Vec<String> = above
         .map(|(place, &line)| format!("{} mA on line {}", grouped(line), place + 1))
         .collect();
-    let measured = words.join(", ");
-    format!("{measured}: a measured current is at most 200,000 mA")
+    words.join(", ")
 }
 
 /// What is out of range at begin.

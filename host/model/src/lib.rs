@@ -1,11 +1,12 @@
 //! What the controller of a charging post should do, as plain Rust.
 //!
 //! It was made from document 01, the paper that states the rules, and requests a
-//! to f of document 02, without sight of the controller that it is held against,
+//! to g of document 02, without sight of the controller that it is held against,
 //! call by call. By those requests pause 0 means 10,000, a measure has a current
 //! for every line, a lowered duty restarts a running over-run, the duty table is
-//! its ranges' formula, a digital post agrees its current over the link, and the
-//! fault told is the one latched first.
+//! its ranges' formula, a digital post agrees its current over the link, the fault
+//! told is the one latched first, and a limit above 80,000 has a refusal number of
+//! its own.
 //! Given beside the papers were the interface with its fields `digital` and
 //! `grant`, readings 1, 3, 5, 27 and 28 below, and the first sentence of 18. For
 //! request f it was suggested that the state keeps the order and that an altered
@@ -173,6 +174,15 @@
 //!     lead to such a controller; the model does not ask, and leaves its fault open.
 //! 52. A state whose order has other faults than the latched ones is altered, and its
 //!     order counts as not known.
+//!
+//! Limit and measure told separately
+//! 53. A limit call's order is 3, 2, 1, 13, in a plain post and in a digital one:
+//!     13 stands where its 7 stood. No other number can meet it, as 4 to 8, 11 and 12
+//!     are of other calls.
+//! 54. 13 looks at the limit that the call brings. A lent limit above 80,000 is
+//!     refusal 1 as before, also where the limit call would replace it.
+//! 55. The ends stay: 80,000 is accepted, also above the rated current, and stored as
+//!     it came.
 
 #![forbid(unsafe_code)]
 

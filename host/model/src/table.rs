@@ -32,8 +32,9 @@ pub fn refusal_of_call(state: &State, time: u64, event: &Event) -> u8 {
     }
 }
 
-/// Goes through the table in its order: 3, 2, 1, then 4 to 8, or 12 and 11 of a link call.
-/// An accepted sample gets its high and low level.
+/// Goes through the table in its order: 3, 2, 1, then 4 to 8 with 13 of a limit call in
+/// the place of 7, or 12 and 11 of a link call. An accepted sample gets its high and low
+/// level.
 pub(crate) fn check(
     state: &State,
     evaluate: impl FnOnce(&[i32]) -> Evaluated,
@@ -51,7 +52,7 @@ pub(crate) fn check(
     }
     match *event {
         Event::Sample(window) => evaluate(window).map(Some),
-        Event::Limit(limit) if limit > LARGEST_LIMIT => Err(7),
+        Event::Limit(limit) if limit > LARGEST_LIMIT => Err(13),
         Event::Measure(lines) if lines.iter().any(|&line| line > LARGEST_MEASURE) => Err(7),
         Event::Fault(kind) if !(3..=5).contains(&kind) => Err(8),
         Event::Link(_) if !state.digital => Err(12),

@@ -236,7 +236,7 @@ fn repeated_limit_of_0() {
 #[test]
 fn refused_call_moves_no_clock() {
     let mut post = Post::begin(0);
-    assert_eq!(post.call(100, Event::Limit(80_001)).refusal, 7);
+    assert_eq!(post.call(100, Event::Limit(80_001)).refusal, 13);
     assert_eq!(post.call(MAX_TIME + 1, Event::Tick).refusal, 3);
     assert_eq!(post.call(50, Event::Tick).refusal, 0);
     assert_eq!(post.call(49, Event::Tick).refusal, 2);
@@ -425,10 +425,10 @@ fn refusals_4_5_and_6() {
 }
 
 #[test]
-fn refusals_7_and_8() {
+fn refusals_7_8_and_13() {
     let mut post = Post::closed();
     assert_eq!(post.call(50, Event::Limit(80_000)).refusal, 0);
-    assert_eq!(post.call(50, Event::Limit(80_001)).refusal, 7);
+    assert_eq!(post.call(50, Event::Limit(80_001)).refusal, 13);
     assert_eq!(post.call(50, Event::measure_one(200_000)).refusal, 0);
     assert_eq!(post.call(50, Event::measure_one(200_001)).refusal, 7);
     for kind in [0, 1, 2, 6, u32::MAX] {

@@ -52,7 +52,7 @@ fn it_stays_open_beside_a_refusal() {
         open_beside(2, &state, 9_999, Event::Clear);
         open_beside(3, &state, MAX_TIME + 1, Event::Clear);
         open_beside(4, &state, 10_000, Event::Sample(&[]));
-        open_beside(7, &state, 10_000, Event::Limit(80_001));
+        open_beside(13, &state, 10_000, Event::Limit(80_001));
         open_beside(8, &state, 10_000, Event::Fault(1));
     }
 }

@@ -40,7 +40,7 @@ fn refused_shows_4(post: &mut Post) {
         (4, 100, Event::Sample(&[])),
         (5, 100, Event::Sample(&[15_001; 256])),
         (6, 100, Event::Sample(&unsupported())),
-        (7, 100, Event::Limit(80_001)),
+        (13, 100, Event::Limit(80_001)),
         (7, 100, Event::Measure([0, 0, LARGEST + 1])),
         (8, 100, Event::Fault(6)),
     ] {

@@ -219,7 +219,7 @@ fn refusals_show_the_lines_as_lent() {
     refused(&state, 10_000, Event::Sample(&[15_001; 256]), 5);
     let spread: Vec<i32> = (0..256).map(|n| 100 * n - 12_800).collect();
     refused(&state, 10_000, Event::Sample(&spread), 6);
-    refused(&state, 10_000, Event::Limit(80_001), 7);
+    refused(&state, 10_000, Event::Limit(80_001), 13);
     refused(&state, 10_000, Event::Fault(2), 8);
 }
 

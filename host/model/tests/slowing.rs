@@ -579,7 +579,7 @@ fn refused_call_restarts_nothing() {
         (10_010, Event::Sample(&[0; 255]), 4),
         (10_010, Event::Sample(&[15_001; 256]), 5),
         (10_010, Event::Sample(&spread), 6),
-        (10_010, Event::Limit(80_001), 7),
+        (10_010, Event::Limit(80_001), 13),
         (10_010, Event::measure_one(LARGEST + 1), 7),
         (10_010, Event::Fault(2), 8),
     ] {

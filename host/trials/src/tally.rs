@@ -47,10 +47,10 @@ pub const STATES: [&str; 11] = [
     "U0", "A1", "A2", "B1", "B2", "C1", "C2", "D1", "D2", "E0", "F0",
 ];
 
-const NUMBERS: [&str; 13] = [
-    "0", "1", "2", "3", "4", "5", "6", "7", "8", "9", "10", "11", "12",
+const NUMBERS: [&str; 14] = [
+    "0", "1", "2", "3", "4", "5", "6", "7", "8", "9", "10", "11", "12", "13",
 ];
-/// Refusal numbers that a post of either kind can tell.
+/// Refusal numbers that a post of either kind can tell, besides 13.
 pub const REFUSALS: &[&str] = NUMBERS.split_at(9).0;
 pub const FAULTS: [&str; 5] = ["1", "2", "3", "4", "5"];
 
@@ -65,6 +65,11 @@ pub const LENGTHS: [(&str, usize); 8] = [
     ("1,024", 1_024),
     ("1,025", 1_025),
 ];
+
+/// A limit just out of range, and the largest number: refused by 13. And the largest that is stored.
+pub const LIMITS: [&str; 3] = ["80,000, stored", "80,001, refused", "largest, refused"];
+/// Refused limits where 13 held as well.
+pub const OVER_13: [&str; 2] = ["2 over 13", "3 over 13"];
 
 /// What a measure shows on line 1, 2 or 3.
 pub const LARGEST_ON: [&str; 3] = ["largest on 1", "largest on 2", "largest on 3"];
@@ -145,6 +150,7 @@ impl Tally {
         if let Call::Sample(_, window) = seen.call {
             self.see_length(window.length());
         }
+        self.see_limit(seen);
         if reply.refusal != 0 {
             self.count("refused", seen.call.word());
             self.see_order(seen);
@@ -183,6 +189,22 @@ impl Tally {
             3 if altered(&seen.before) => self.count("order", "3 over 1"),
             2 if altered(&seen.before) => self.count("order", "2 over 1"),
             1 if refused_anyway(&event) => self.count("order", "1 over 4 to 8"),
+            _ => {}
+        }
+    }
+
+    /// Limits at the ends of what is stored and refused, and the refusals that come before 13.
+    fn see_limit(&mut self, seen: &Seen) {
+        let Call::Limit(_, limit) = *seen.call else {
+            return;
+        };
+        match (seen.outcome.reply.refusal, limit) {
+            (0, 80_000) => self.count("limit", "80,000, stored"),
+            (13, 80_001) => self.count("limit", "80,001, refused"),
+            (13, u32::MAX) => self.count("limit", "largest, refused"),
+            (1, 80_001..) => self.count("order", "1 over 13"),
+            (2, 80_001..) => self.count("order", "2 over 13"),
+            (3, 80_001..) => self.count("order", "3 over 13"),
             _ => {}
         }
     }

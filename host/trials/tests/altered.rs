@@ -8,7 +8,7 @@ use chuldariin_trials::author::write_from;
 use chuldariin_trials::dice::Dice;
 use chuldariin_trials::edges::LARGEST;
 use chuldariin_trials::tally::Posts::{Digital, Each, Plain};
-use chuldariin_trials::tally::{Tally, Wanted, CAUSES, FAULTS, REFUSALS, STATES};
+use chuldariin_trials::tally::{Tally, Wanted, CAUSES, FAULTS, OVER_13, REFUSALS, STATES};
 use chuldariin_trials::tally_duty::ALTERED_RESTARTS;
 use chuldariin_trials::tally_faults::{AGAIN, LATCHES, NO_LISTS, OPEN, TOLD};
 use chuldariin_trials::tally_link::{ALTERED_IN_A, JUDGED_IN_A, OVER_11, OVER_12};
@@ -293,8 +293,11 @@ const FREE: [Change; 6] = [
 ];
 
 /// What must have occurred on wild controllers: also every set of causes.
-const WANTED: [Wanted; 23] = [
+const WANTED: [Wanted; 26] = [
     (Each, "refusal", REFUSALS),
+    (Each, "refusal", &["13"]),
+    (Each, "order", &["1 over 13"]),
+    (Each, "order", &OVER_13),
     (Digital, "refusal", &["11"]),
     (Plain, "refusal", &["12"]),
     (Each, "opened by", CAUSES.split_at(1).1),
@@ -332,7 +335,7 @@ const MISSING: [&str; 6] = [
 const ORDERS: [&str; 4] = ["3 over 2", "3 over 1", "2 over 1", "1 over 4 to 8"];
 
 /// Calls of each kind at one time.
-fn calls_at(time: u64) -> [Call; 25] {
+fn calls_at(time: u64) -> [Call; 26] {
     let sample = |high, low| Call::Sample(time, Window::Halves(high, low));
     [
         Call::Tick(time),
@@ -340,6 +343,7 @@ fn calls_at(time: u64) -> [Call; 25] {
         Call::Limit(time, 32_000),
         Call::Limit(time, 0),
         Call::Limit(time, 80_001),
+        Call::Limit(time, u32::MAX),
         Call::Measure(time, 0),
         Call::Measure(time, 200_000),
         Call::Measure(time, 200_001),

@@ -139,7 +139,7 @@ fn a_clear_empties_the_order() {
     tells(over_running, &rows, [5, 0, 0, 0, 0]);
 }
 
-/// Beside 2, 3, 7 and 8 the first is told; a refused begin comes alone.
+/// Beside 2, 3, 7, 8 and 13 the first is told; a refused begin comes alone.
 #[test]
 fn a_refused_call_changes_no_order() {
     let rows = [
@@ -149,6 +149,7 @@ fn a_refused_call_changes_no_order() {
         ("clear 59", 4),
         ("fault 1000000000001 5", 4),
         ("limit 60 80001", 4),
+        ("measure 60 200001", 4),
         ("fault 60 2", 4),
         ("begin 0 5999 0 no", 0),
         ("tick 60", 4),

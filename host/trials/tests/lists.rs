@@ -4,7 +4,7 @@ use chuldariin_trials::author::write;
 use chuldariin_trials::styles::{list, seeds, STYLES};
 use chuldariin_trials::tally::Posts::{Any, Digital, Each, Plain};
 use chuldariin_trials::tally::{
-    Tally, Wanted, ABOVE_ON, FAULTS, LARGEST_ON, MOST_ON, REFUSALS, STARTS_ON,
+    Tally, Wanted, ABOVE_ON, FAULTS, LARGEST_ON, LIMITS, MOST_ON, OVER_13, REFUSALS, STARTS_ON,
 };
 use chuldariin_trials::tally_duty::RESTARTS;
 use chuldariin_trials::tally_faults::*;
@@ -72,6 +72,13 @@ const WANTED: [Wanted; 19] = [
     (Each, "stop", &STOPS),
 ];
 
+/// Limit and measure told separately (document 02, g): 7 is among the refusals above.
+const WANTED_OF_LIMITS: [Wanted; 3] = [
+    (Each, "refusal", &["13"]),
+    (Each, "limit", &LIMITS),
+    (Each, "order", &OVER_13),
+];
+
 /// What a link call must have brought about (document 02, e).
 const WANTED_BY_LINK: [Wanted; 22] = [
     (Digital, "accepted", &["link"]),
@@ -133,6 +140,7 @@ fn both_sides_agree_on_every_list() {
     let mut never = tally.missing(&WANTED);
     never.extend(tally.missing(&WANTED_BY_LINK));
     never.extend(tally.missing(&WANTED_OF_FAULTS));
+    never.extend(tally.missing(&WANTED_OF_LIMITS));
     assert!(never.is_empty(), "never occurred: {}", never.join("; "));
     assert_eq!(tally.of("told", OPEN), 0, "left open which fault is told");
     no_other_orders(&tally);

@@ -308,7 +308,7 @@ LinksRow = withoutLinks (map callOf (call 0 tick ∷ call 1 (link 0) ∷ call 2 
 abbrev marked : Bool → ℕ → ℕ → Lent
 marked digital wave granted = unreachedWith digital false bandB granted wave empty
 
--- in range: a limit of 80,001 is refused with 7
+-- in range: a limit of 80,001 is refused with 13
 abbrev pub markedInside : List Lent
 markedInside = marked true 0 0 ∷ marked true 50 80000 ∷ marked true 1000 0 ∷ marked false 0 80000 ∷ marked false 100 80000 ∷ marked false 960 0 ∷ marked false 1000 0 ∷ []
 
@@ -327,7 +327,7 @@ markedOutside =
     ∷ []
 
 abbrev pub MarkedRowsHold : Type 0
-MarkedRowsHold = RefusedAll 110 7 markedInside × RefusedAll 110 1 markedOutside
+MarkedRowsHold = RefusedAll 110 13 markedInside × RefusedAll 110 1 markedOutside
 
 -- the digit: 50 is driven in a digital post alone, 100 to 960 in both
 abbrev pub DigitRow : Type 0

@@ -92,7 +92,7 @@ linesLent =
       first = [];
       entries =
           showing (on 200001 300000 4294967295) 110 tick 0 bandC 2 960 false 0 7
-          ∷ showing (on 200001 300000 4294967295) 111 (limit 80001) 7 bandC 2 960 false 0 7
+          ∷ showing (on 200001 300000 4294967295) 111 (limit 80001) 13 bandC 2 960 false 0 7
           ∷ showing (on 200000 0 0) 111 (measure (on 200000 0 0)) 0 bandC 2 960 false 0 7
           ∷ [];
     }

@@ -121,7 +121,7 @@ clock =
       start = at80A 0;
       first = [];
       entries =
-          row 100 (limit 80001) 7 letterU 0 1000 false 0 0
+          row 100 (limit 80001) 13 letterU 0 1000 false 0 0
           ∷ row 50 (limit 80000) 0 letterU 0 1000 false 0 0
           ∷ row 49 tick 2 letterU 0 1000 false 0 0
           ∷ row 50 tick 0 letterU 0 1000 false 0 0
@@ -131,7 +131,7 @@ clock =
           ∷ [];
     }
 
--- refusals 7 and 8 stand beside the reply as it was
+-- refusals 7, 8 and 13 stand beside the reply as it was
 abbrev pub refusedArguments : Sequence
 refusedArguments =
     record {
@@ -142,7 +142,8 @@ refusedArguments =
           ∷ showing (on 200000 0 0) 50 (measure (onLine1 200000)) 0 bandC 2 960 true 0 1
           ∷ showing (on 200000 0 0) 50 (fault 2) 8 bandC 2 960 true 0 1
           ∷ showing (on 200000 0 0) 50 (fault 6) 8 bandC 2 960 true 0 1
-          ∷ showing (on 200000 0 0) 50 (limit 80001) 7 bandC 2 960 true 0 1
+          ∷ showing (on 200000 0 0) 50 (limit 80001) 13 bandC 2 960 true 0 1
+          ∷ showing (on 200000 0 0) 50 (limit 4294967295) 13 bandC 2 960 true 0 1
           ∷ [];
     }
 

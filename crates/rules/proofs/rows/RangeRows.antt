@@ -73,7 +73,7 @@ lent wave current rated pause last sound opening overrun stop closings =
 abbrev pub unset : Moment
 unset = record { set = false; time = 51 }
 
--- a limit of 80,001 at 50 is refused with 7 where the lent controller is in range
+-- a limit of 80,001 at 50 is refused with 13 where the lent controller is in range
 abbrev pub inside : List Lent
 inside =
     lent 0 0 6000 1000 50 (setTo 50) (setTo 50) (setTo 50) (setTo 50) 1000000001
@@ -114,7 +114,7 @@ abbrev pub RefusedAll : ℕ → ℕ → List Lent → Type 0
 RefusedAll time number lents = map (λ l. lentRefusal l (record { time = time; event = limit 80001 })) lents ≡ map (λ l. number) lents
 
 abbrev pub LentRowsHold : Type 0
-LentRowsHold = RefusedAll 50 7 inside × RefusedAll 50 1 outside × RefusedAll 1000000000001 3 late × RefusedAll 50 2 early
+LentRowsHold = RefusedAll 50 13 inside × RefusedAll 50 1 outside × RefusedAll 1000000000001 3 late × RefusedAll 50 2 early
 
 -- a refused window refuses its sample, by the window's own number
 abbrev pub WindowRow : Type 0
