@@ -114,7 +114,7 @@ arguments digital tick n big = (λ e. absurd (omega arith), λ e. absurd e)
 
 -- it is 0 or one of 4 to 8 and 11 to 13
 abbrev Numbered : ℕ → Type 0
-Numbered n = (4 ≤ n) × ((n ≤ 8) ⊎ ((11 ≤ n) × (n ≤ 13)))
+Numbered n = (4 ≤ n) × (n ≤ 13) × (n ≡ 9 → ⊥) × (n ≡ 10 → ⊥)
 
 abbrev Known : ℕ → Type 0
 Known n = (n ≡ 0) ⊎ Numbered n
@@ -124,14 +124,14 @@ known-if true number numbered = inl refl
 known-if false number numbered = inr numbered
 
 wrong-number : (digital : Bool) (event : Event (List ℤ)) (n : ℕ) → WrongFor n digital event → Numbered n
-wrong-number digital (sample window) n (inl (is, out)) = (omega arith, inl (omega arith))
-wrong-number digital (sample window) n (inr (inl (is, one))) = (omega arith, inl (omega arith))
-wrong-number digital (sample window) n (inr (inr (is, none))) = (omega arith, inl (omega arith))
-wrong-number digital (limit current) n (is, out) = (omega arith, inr (omega arith, omega arith))
-wrong-number digital (measure lines) n (is, out) = (omega arith, inl (omega arith))
-wrong-number digital (link granted) n (inl (is, plain)) = (omega arith, inr (omega arith, omega arith))
-wrong-number digital (link granted) n (inr (is, marked, above)) = (omega arith, inr (omega arith, omega arith))
-wrong-number digital (fault kind) n (is, out) = (omega arith, inl (omega arith))
+wrong-number digital (sample window) n (inl (is, out)) = omega arith
+wrong-number digital (sample window) n (inr (inl (is, one))) = omega arith
+wrong-number digital (sample window) n (inr (inr (is, none))) = omega arith
+wrong-number digital (limit current) n (is, above) = omega arith
+wrong-number digital (measure lines) n (is, above) = omega arith
+wrong-number digital (link granted) n (inl (is, plain)) = omega arith
+wrong-number digital (link granted) n (inr (is, marked, above)) = omega arith
+wrong-number digital (fault kind) n (is, out) = omega arith
 wrong-number digital clear n none = absurd none
 wrong-number digital tick n none = absurd none
 
@@ -142,11 +142,11 @@ window-number window (refused number) e = inr (wrong-number true (sample window)
 argument-number : (digital : Bool) (event : Event (List ℤ)) → Known (argumentRefusal digital (evaluated event))
 unfolding evaluated argumentRefusal linkRefusal
 argument-number digital (sample window) = window-number window (evaluate window) refl
-argument-number digital (limit current) = known-if (limitAllowed current) 13 (omega arith, inr (omega arith, omega arith))
-argument-number digital (measure lines) = known-if (linesAllowed lines) 7 (omega arith, inl (omega arith))
-argument-number true (link granted) = known-if (grantAllowed granted) 11 (omega arith, inr (omega arith, omega arith))
-argument-number false (link granted) = inr (omega arith, inr (omega arith, omega arith))
-argument-number digital (fault kind) = known-if (kindAllowed kind) 8 (omega arith, inl (omega arith))
+argument-number digital (limit current) = known-if (limitAllowed current) 13 (omega arith)
+argument-number digital (measure lines) = known-if (linesAllowed lines) 7 (omega arith)
+argument-number true (link granted) = known-if (grantAllowed granted) 11 (omega arith)
+argument-number false (link granted) = inr (omega arith)
+argument-number digital (fault kind) = known-if (kindAllowed kind) 8 (omega arith)
 argument-number digital clear = inl refl
 argument-number digital tick = inl refl
 
@@ -155,7 +155,7 @@ told : (digital : Bool) (event : Event (List ℤ)) (n : ℕ) → WrongFor n digi
 told digital (sample window) n (inl (is, out)) = (λ e. absurd (omega arith), λ e. absurd (omega arith))
 told digital (sample window) n (inr (inl (is, one))) = (λ e. absurd (omega arith), λ e. absurd (omega arith))
 told digital (sample window) n (inr (inr (is, none))) = (λ e. absurd (omega arith), λ e. absurd (omega arith))
-told digital (limit current) n (is, above) = (λ e. absurd (omega arith), λ e. limited current refl above)
+told digital (limit current) n (is, above) = (λ e. absurd (omega arith), λ e. limited current refl (omega arith))
 told digital (measure lines) n (is, above) = (λ e. measured lines refl above, λ e. absurd (omega arith))
 told digital (link granted) n (inl (is, plain)) = (λ e. absurd (omega arith), λ e. absurd (omega arith))
 told digital (link granted) n (inr (is, marked, above)) = (λ e. absurd (omega arith), λ e. absurd (omega arith))
@@ -173,7 +173,7 @@ thirteen-for : (digital : Bool) (event : Event (List ℤ)) → WrongFor 13 digit
 thirteen-for digital event = (λ wrong. told digital event 13 wrong .1 refl, from)
   where
     from : LimitAbove event → WrongFor 13 digital event
-    from (limited current is above) = subst (WrongFor 13 digital) (sym is) (refl, above)
+    from (limited current is above) = subst (WrongFor 13 digital) (sym is) (refl, omega arith)
 
 module _ (lent : Lent) (call : Call) where
   -- a number from 1 to 3 is not that of the arguments
@@ -195,7 +195,7 @@ module _ (lent : Lent) (call : Call) where
         seven = through 7 (omega arith) (seven-for (lent .state .settings .digital) (call .event));
         thirteen = through 13 (omega arith) (thirteen-for (lent .state .settings .digital) (call .event));
         none = (λ e. none (way lent call) e, λ h. none-back (way lent call) (argument-number (lent .state .settings .digital) (call .event)) h);
-        no-other = few (way lent call) (argument-number (lent .state .settings .digital) (call .event));
+        no-other = omega (arith, few (way lent call) (argument-number (lent .state .settings .digital) (call .event)));
       }
     where
       three : Way lent call → lentRefusal lent (evaluatedCall call) ≡ 3 → largestTime < call .time
@@ -274,10 +274,9 @@ module _ (lent : Lent) (call : Call) where
       none-back (judged is h) (inr big) all = absurd (all .1 _ (arguments (lent .state .settings .digital) (call .event) _ (big .0) .0 refl))
 
       few : Way lent call → Known (argumentRefusal (lent .state .settings .digital) (evaluated (call .event)))
-          → (lentRefusal lent (evaluatedCall call) ≤ 8) ⊎ ((11 ≤ lentRefusal lent (evaluatedCall call)) × (lentRefusal lent (evaluatedCall call) ≤ 13))
-      few (late is h) number = inl (omega arith)
-      few (early is h k) number = inl (omega arith)
-      few (changed is h k) number = inl (omega arith)
-      few (judged is h) (inl zero) = inl (omega arith)
-      few (judged is h) (inr (big, inl small)) = inl (omega arith)
-      few (judged is h) (inr (big, inr (from, to))) = inr (omega arith, omega arith)
+          → (lentRefusal lent (evaluatedCall call) ≤ 13) × (lentRefusal lent (evaluatedCall call) ≡ 9 → ⊥) × (lentRefusal lent (evaluatedCall call) ≡ 10 → ⊥)
+      few (late is h) number = omega arith
+      few (early is h k) number = omega arith
+      few (changed is h k) number = omega arith
+      few (judged is h) (inl zero) = omega arith
+      few (judged is h) (inr numbered) = omega arith

@@ -82,7 +82,7 @@ pub record RefusedBy (lent : Lent) (call : Call) (number : ℕ) : Type 0 where
   pub seven : (number ≡ 7) ↔ (ArgumentsAsked lent call × MeasureAbove (call .event))
   pub thirteen : (number ≡ 13) ↔ (ArgumentsAsked lent call × LimitAbove (call .event))
   pub none : (number ≡ 0) ↔ (ArgumentsAsked lent call × ((n : ℕ) → WrongFor n (lent .state .settings .digital) (call .event) → ⊥))
-  pub no-other : (number ≤ 8) ⊎ ((11 ≤ number) × (number ≤ 13))
+  pub no-other : (number ≤ 13) × (number ≡ 9 → ⊥) × (number ≡ 10 → ⊥)
 
 -- what begin is refused for by 1: a rated current, or a pause other than 0, that is out of its range
 abbrev pub SettingsOut : Begin → Type 0

@@ -1,6 +1,11 @@
--- Each way through the code is one case of the definition.
+-- The number where the test fails.
+use mathlib.Core.Path.{_∙_, ap}
+use mathlib.Core.Bool.{cond}
 use Rattle.events.proofs.refusals.measure_refusal.Statement.{statement}
 use Rattle.events.proofs.refusals.measure_refusal.Tie as tie
 
+returns : tie.Need-returns
+returns c = c .number-unless .ensures ∙ ap (λ allowed. cond allowed 0 7) (c .before .allowed .ensures)
+
 pub measure-refusal-spec : {M : Type 1} → statement M
-measure-refusal-spec = tie.close (tie.spec (λ c κs. tt) (λ c κs. tt) (λ c. cc))
+measure-refusal-spec = tie.close (tie.spec (λ c κs. tt) (λ c κs. tt) returns)
