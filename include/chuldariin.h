@@ -86,8 +86,8 @@ enum {
     CHULDARIIN_REFUSED_READING = 5,
     /* No reading has 8 readings, itself counted, within 200 mV. The pilot line is too noisy. */
     CHULDARIIN_REFUSED_UNSUPPORTED = 6,
-    /* A measured current, on any line, is above 200,000 mA, and none of the three is kept. Ask the meter:
-     * is the unit milliamps? A limit has a number of its own, 13. */
+    /* A measured current, on any line, is above 200,000 mA. The last accepted currents stay, and nothing is
+     * judged. Are the meter and its scaling in milliamps? A limit has a number of its own, 13. */
     CHULDARIIN_REFUSED_MEASURE = 7,
     /* A fault's kind is not 3, 4 or 5. Faults 1 and 2 are the controller's own. */
     CHULDARIIN_REFUSED_KIND = 8,
@@ -95,12 +95,12 @@ enum {
     CHULDARIIN_REFUSED_DUTY = 9,
     /* chuldariin_duty: the current is below 6,000 mA, which no duty announces. */
     CHULDARIIN_REFUSED_TOO_LOW = 10,
-    /* A grant is above 80,000 mA. */
+    /* A grant is above 80,000 mA. The grant before it stays. Are the link and its scaling in milliamps? */
     CHULDARIIN_REFUSED_GRANT = 11,
     /* A link call to a post that was begun plain. Begin it digital, or leave the link out. */
     CHULDARIIN_REFUSED_PLAIN = 12,
-    /* A limit is above 80,000 mA, and the limit before it stays. Ask the load manager: is the unit
-     * milliamps? */
+    /* The depot's limit is above 80,000 mA. The limit before it stays; after begin that is 0, and nothing
+     * charges. Are the depot's load manager and its scaling in milliamps? */
     CHULDARIIN_REFUSED_LIMIT = 13
 };
 
@@ -191,8 +191,8 @@ struct chuldariin_controller {
  * It has 28 bytes, so a call returns it in memory, at an address that the caller passes first and C
  * hides; the 16 bytes of a version without `lines` came back in two registers. A host that was compiled
  * with any earlier header has to be compiled again: begin has a parameter more, the controller's fields
- * stand at other offsets, and a fault in it is a place and no longer a bool. A controller that it wrote is
- * not to be lent to this version: begin anew. */
+ * stand at other offsets, a fault in it is a place and no longer a bool, and a limit is refused by 13 and no
+ * longer by 7. A controller that it wrote is not to be lent to this version: begin anew. */
 struct chuldariin_reply {
     uint8_t refusal;   /* 0 if accepted, else CHULDARIIN_REFUSED_... */
     uint8_t letter;    /* the state: 'A' to 'E', 'U' unsettled, 'F' a fault is latched */

@@ -288,16 +288,21 @@ static void each_refusal(void) {
 static void limit_refused(controller c) {
     const controller before = c;
     refused(chuldariin_limit(&c, 50, 80001), CHULDARIIN_REFUSED_LIMIT, &before, &c);
-    refused(chuldariin_limit(&c, 50, 200001), CHULDARIIN_REFUSED_LIMIT, &before, &c);
+    refused(chuldariin_limit(&c, 50, 200000), CHULDARIIN_REFUSED_LIMIT, &before, &c);
     refused(chuldariin_limit(&c, 50, UINT32_MAX), CHULDARIIN_REFUSED_LIMIT, &before, &c);
     refused(chuldariin_limit(&c, 39, 80001), CHULDARIIN_REFUSED_EARLIER, &before, &c);
     refused(chuldariin_limit(&c, 1000000000001u, 80001), CHULDARIIN_REFUSED_LATE, &before, &c);
     refused(chuldariin_measure(&c, 50, UINT32_MAX), CHULDARIIN_REFUSED_MEASURE, &before, &c);
+    refused(chuldariin_measure(&c, 39, 200001), CHULDARIIN_REFUSED_EARLIER, &before, &c);
+    refused(chuldariin_measure(&c, 1000000000001u, 200001), CHULDARIIN_REFUSED_LATE, &before, &c);
     EXPECT(chuldariin_measure(&c, 50, 80001).refusal == CHULDARIIN_ACCEPTED);
     EXPECT(chuldariin_limit(&c, 50, 80000).refusal == CHULDARIIN_ACCEPTED && c.limit == 80000);
+    c = before;
     c.limit = 80001;
-    EXPECT(chuldariin_limit(&c, 50, 80001).refusal == CHULDARIIN_REFUSED_SETTINGS);
-    EXPECT(chuldariin_measure(&c, 50, 200001).refusal == CHULDARIIN_REFUSED_SETTINGS && c.limit == 80001);
+    const controller altered = c;
+    refused(chuldariin_limit(&c, 50, 80001), CHULDARIIN_REFUSED_SETTINGS, &altered, &c);
+    refused(chuldariin_limit(&c, 50, 32000), CHULDARIIN_REFUSED_SETTINGS, &altered, &c);
+    refused(chuldariin_measure(&c, 50, 200001), CHULDARIIN_REFUSED_SETTINGS, &altered, &c);
 }
 
 static void before_any_begin(void) {

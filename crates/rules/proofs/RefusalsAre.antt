@@ -247,7 +247,8 @@ module _ (lent : Lent) (call : Call) where
       later-back n big (judged is h) all = is ∙ arguments (lent .state .settings .digital) (call .event) n big .1 (all .1)
 
       -- what else one number's condition means
-      through : (n : ℕ) → 4 ≤ n → {X : Type 0} → WrongFor n (lent .state .settings .digital) (call .event) ↔ X → (lentRefusal lent (evaluatedCall call) ≡ n) ↔ (ArgumentsAsked lent call × X)
+      through : (n : ℕ) → 4 ≤ n → {X : Type 0} → WrongFor n (lent .state .settings .digital) (call .event) ↔ X
+          → (lentRefusal lent (evaluatedCall call) ≡ n) ↔ (ArgumentsAsked lent call × X)
       through n big means = (
         λ e. let both = later n big (way lent call) e in (both .0, means .0 (both .1)),
         λ both. later-back n big (way lent call) (both .0, means .1 (both .1)),

@@ -86,13 +86,13 @@ impl Refusal {
             Refusal::Unsupported => {
                 "no reading has 8 readings, itself counted, within 200 mV: look for noise on the pilot line, and tick for this one"
             }
-            Refusal::Measure => "give measured currents up to 200,000 mA each: is the meter's unit milliamps?",
+            Refusal::Measure => "give measured currents up to 200,000 mA each: are the meter and its scaling in milliamps?",
             Refusal::Kind => "tell residual current (3), welded contact (4) or over-temperature (5): the controller finds 1 and 2 itself",
             Refusal::Duty => "ask for a duty up to 1000: the unit is a tenth of a percent",
             Refusal::TooLow => "ask for 6,000 mA or more: no duty announces less",
-            Refusal::Grant => "give a grant up to 80,000 mA: is the unit milliamps?",
+            Refusal::Grant => "give a grant up to 80,000 mA: are the link and its scaling in milliamps?",
             Refusal::Plain => "this post was begun plain, and takes no grant: begin it digital, or leave the link out",
-            Refusal::Limit => "give a limit up to 80,000 mA: is the load manager's unit milliamps?",
+            Refusal::Limit => "give a limit up to 80,000 mA: are the load manager and its scaling in milliamps?",
         }
     }
 }

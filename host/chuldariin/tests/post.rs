@@ -1,6 +1,6 @@
 //! The wrapper over the archive: the refusals of the calls by name, and a controller that they leave alone; the stored pause; a fault and
 //! its end; the current on each line.
-use chuldariin::{Begin, Fault, Milliamps, Millis, Post, Refusal, Reply};
+use chuldariin::{raw, Begin, Fault, Milliamps, Millis, Post, Refusal, Reply};
 
 const BEGIN: Begin = Begin {
     time: Millis(0),
@@ -85,6 +85,35 @@ fn an_altered_controller_is_refused() {
     let mut post = Post::with(controller);
     assert_eq!(post.tick(Millis(50)), Err(Refusal::Settings));
     assert_eq!(*post.controller(), controller);
+}
+
+/// 13 for a limit and 7 for a measure, behind 3, 2 and 1.
+fn limit_and_measure(digital: bool) {
+    let (mut post, _) = Post::begin(Begin { digital, ..BEGIN }).expect("in range");
+    post.tick(Millis(40)).expect("a tick");
+    for above in [80_001, 200_001, u32::MAX].map(Milliamps) {
+        assert_eq!(post.limit(Millis(50), above), Err(Refusal::Limit));
+        assert_eq!(post.limit(Millis(39), above), Err(Refusal::Earlier));
+        assert_eq!(post.limit(Millis(u64::MAX), above), Err(Refusal::Late));
+    }
+    let above = Milliamps(200_001);
+    assert_eq!(post.measure(Millis(50), above), Err(Refusal::Measure));
+    assert_eq!(post.measure(Millis(39), above), Err(Refusal::Earlier));
+    assert_eq!(post.measure(Millis(u64::MAX), above), Err(Refusal::Late));
+    let controller = raw::Controller {
+        limit: 80_001,
+        ..*post.controller()
+    };
+    let mut lent = Post::with(controller);
+    assert_eq!(lent.limit(Millis(50), above), Err(Refusal::Settings));
+    assert_eq!(lent.measure(Millis(50), above), Err(Refusal::Settings));
+    assert_eq!(*lent.controller(), controller);
+}
+
+#[test]
+fn limit_and_measure_are_told_separately() {
+    limit_and_measure(false);
+    limit_and_measure(true);
 }
 
 #[test]
@@ -181,6 +210,19 @@ fn the_first_latched_fault_is_told() {
     assert_eq!(post.faults(), []);
     post.fault(Millis(90), Fault::Residual).expect("a kind");
     assert_eq!(post.faults(), [Fault::Residual]);
+}
+
+/// Of a current that is too large the advice tells where it came from.
+#[test]
+fn meter_link_and_load_manager() {
+    for (number, refusal, from) in [
+        (7, Refusal::Measure, "are the meter and its scaling"),
+        (11, Refusal::Grant, "are the link and its scaling"),
+        (13, Refusal::Limit, "are the load manager and its scaling"),
+    ] {
+        assert_eq!(refusal.number(), number);
+        assert!(refusal.to_string().contains(from), "{refusal}");
+    }
 }
 
 #[test]

@@ -37,11 +37,11 @@ pub const REFUSALS: [(usize, &str); 11] = [
     (4, "the window's length"),
     (5, "a reading out of range"),
     (6, "no supported reading"),
-    (7, "a measured current too large: look at the meter"),
+    (7, "a measured current too large: the meter, or its scaling"),
     (8, "a fault that is not for the host to tell"),
-    (11, "a grant too large"),
+    (11, "a grant too large: the link, or its scaling"),
     (12, "a link call to a plain post"),
-    (13, "a limit too large: look at the load manager"),
+    (13, "a limit too large: the load manager, or its scaling"),
 ];
 
 /// A number with a comma before each three digits.
@@ -178,7 +178,7 @@ pub fn call(turn: &Turn) -> String {
 
 /// What refusal 7 comes for.
 const MEASURE_RULE: &str =
-    "a measured current is at most 200,000 mA; check the meter's unit: milliamps";
+    "a measured current is at most 200,000 mA; is the meter's unit milliamps?";
 
 /// Why a refused call was refused.
 pub fn refusal(turn: &Turn) -> String {
@@ -203,13 +203,14 @@ pub fn refusal(turn: &Turn) -> String {
         (7, Call::MeasureLines(_, lines)) => format!("{}: {MEASURE_RULE}", above(lines)),
         (7, _) => MEASURE_RULE.to_string(),
         (8, _) => "the host may tell faults 3, 4 and 5".to_string(),
-        (11, _) => "a grant is at most 80,000 mA; check the unit: milliamps".to_string(),
+        (11, _) => "a grant is at most 80,000 mA; is the link's unit milliamps?".to_string(),
         (12, _) => {
             "a plain post takes no grant: begin it digital, or leave the link out".to_string()
         }
-        (13, _) => {
-            "a limit is at most 80,000 mA; check the load manager's unit: milliamps".to_string()
-        }
+        (13, _) => format!(
+            "a limit is at most 80,000 mA, so {} mA stays; is the load manager's unit milliamps?",
+            grouped(turn.before.limit)
+        ),
         (number, _) => format!("refusal {number}"),
     }
 }

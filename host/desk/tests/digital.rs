@@ -205,7 +205,7 @@ fn settled_a_takes_the_grant() {
 
 #[test]
 fn refused_link_calls() {
-    let large = "REFUSED 11: a grant is at most 80,000 mA; check the unit: milliamps";
+    let large = "REFUSED 11: a grant is at most 80,000 mA; is the link's unit milliamps?";
     let plain = "REFUSED 12: a plain post takes no grant: begin it digital, or leave the link out";
     charging("link 50 80001\n", large);
     charging("link 50 80000\n", "  1      80,000");
@@ -224,7 +224,7 @@ fn refused_link_calls() {
     ));
     for row in [
         "  refusals  3",
-        "          1  11    a grant too large",
+        "          1  11    a grant too large: the link, or its scaling",
         "          2  12    a link call to a plain post",
     ] {
         assert!(shown.lines().any(|shown| shown == row), "{row}\n{shown}");

@@ -36,10 +36,10 @@ fn rare_calls() {
         ("sample 50 6000 -20000\n", "7 ", "REFUSED 5: reading 129 is -20,000 mV, where -15,000 to 15,000 are allowed"),
         ("measure 50 31000 35179 0\n", "7 ", "over-run starts: 35,179 mA on line 2 is above 35,178 (1.1 x 31,980); fault 2 at 5050 unless it ends or the duty is lowered"),
         ("measure 50 9 36000 36000\n", "7 ", "over-run starts: 36,000 mA on line 2 is above 35,178 (1.1 x 31,980); fault 2 at 5050 unless it ends or the duty is lowered"),
-        ("measure 50 0 0 200001\n", "7 ", "REFUSED 7: 200,001 mA on line 3: a measured current is at most 200,000 mA; check the meter's unit: milliamps"),
-        ("measure 50 300000 1 200001\n", "7 ", "REFUSED 7: 300,000 mA on line 1, 200,001 mA on line 3: a measured current is at most 200,000 mA; check the meter's unit: milliamps"),
-        ("measure 50 200001\n", "7 ", "REFUSED 7: a measured current is at most 200,000 mA; check the meter's unit: milliamps"),
-        ("limit 50 80001\n", "7 ", "REFUSED 13: a limit is at most 80,000 mA; check the load manager's unit: milliamps"),
+        ("measure 50 0 0 200001\n", "7 ", "REFUSED 7: 200,001 mA on line 3: a measured current is at most 200,000 mA; is the meter's unit milliamps?"),
+        ("measure 50 300000 1 200001\n", "7 ", "REFUSED 7: 300,000 mA on line 1, 200,001 mA on line 3: a measured current is at most 200,000 mA; is the meter's unit milliamps?"),
+        ("measure 50 200001\n", "7 ", "REFUSED 7: a measured current is at most 200,000 mA; is the meter's unit milliamps?"),
+        ("limit 50 80001\n", "7 ", "REFUSED 13: a limit is at most 80,000 mA, so 32,000 mA stays; is the load manager's unit milliamps?"),
         ("limit 39 80001\n", "7 ", "REFUSED 2: time 39 is before the last accepted call, at 40"),
         ("limit 1000000000001 80001\n", "7 ", "REFUSED 3: the time is above 1,000,000,000,000 ms"),
         ("window 50 1 2\n", "7 ", "REFUSED 4: 2 readings, where 256 to 1,024 are allowed"),
@@ -61,8 +61,8 @@ fn limit_and_measure_are_counted_separately() {
     let shown = replayed(&format!("{CHARGE}{refused}"));
     for row in [
         "  refusals  5",
-        "          2  7     a measured current too large: look at the meter",
-        "          3  13    a limit too large: look at the load manager",
+        "          2  7     a measured current too large: the meter, or its scaling",
+        "          3  13    a limit too large: the load manager, or its scaling",
     ] {
         assert!(shown.lines().any(|shown| shown == row), "{row}\n{shown}");
     }

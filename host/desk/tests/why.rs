@@ -217,7 +217,7 @@ fn the_pause_to_the_millisecond() {
 #[test]
 fn refused_calls_are_told_and_no_more() {
     let log = "begin 0 32000 0 no\ntick 20\nlimit 25 80001\nmeasure 26 200001\ntick 1000000000001\nlimit 90 80001\ntick 95\ntick 3\n";
-    let first = "; the first is line 3, limit 80,001 mA: REFUSED 13: a limit is at most 80,000 mA; check the load manager's unit: milliamps";
+    let first = "; the first is line 3, limit 80,001 mA: REFUSED 13: a limit is at most 80,000 mA, so 0 mA stays; is the load manager's unit milliamps?";
     line(
         &why(log, "40"),
         &format!("after it 3 refused, which judge nothing{first}"),

@@ -198,13 +198,14 @@ impl Tally {
         let Call::Limit(_, limit) = *seen.call else {
             return;
         };
+        let in_range = !altered(&seen.before);
         match (seen.outcome.reply.refusal, limit) {
             (0, 80_000) => self.count("limit", "80,000, stored"),
             (13, 80_001) => self.count("limit", "80,001, refused"),
             (13, u32::MAX) => self.count("limit", "largest, refused"),
             (1, 80_001..) => self.count("order", "1 over 13"),
-            (2, 80_001..) => self.count("order", "2 over 13"),
-            (3, 80_001..) => self.count("order", "3 over 13"),
+            (2, 80_001..) if in_range => self.count("order", "2 over 13"),
+            (3, 80_001..) if in_range => self.count("order", "3 over 13"),
             _ => {}
         }
     }
