@@ -112,9 +112,21 @@ arguments digital (fault kind) n big = refused-if (fromTo 3 5 kind) 8 n (Outside
 arguments digital clear n big = (λ e. absurd (omega arith), λ e. absurd e)
 arguments digital tick n big = (λ e. absurd (omega arith), λ e. absurd e)
 
+-- up to 8, or 11 to 13
+abbrev Few : ℕ → Type 0
+Few n = (n ≤ 8) ⊎ ((11 ≤ n) × (n ≤ 13))
+
+at-most : (n : ℕ) → Few n → n ≤ 13
+at-most n (inl small) = omega arith
+at-most n (inr (from, to)) = to
+
+skips : (n : ℕ) → Few n → 9 ≤ n → 11 ≤ n
+skips n (inl small) above = absurd (omega arith)
+skips n (inr (from, to)) above = from
+
 -- it is 0 or one of 4 to 8 and 11 to 13
 abbrev Numbered : ℕ → Type 0
-Numbered n = (4 ≤ n) × (n ≤ 13) × (n ≡ 9 → ⊥) × (n ≡ 10 → ⊥)
+Numbered n = (4 ≤ n) × Few n
 
 abbrev Known : ℕ → Type 0
 Known n = (n ≡ 0) ⊎ Numbered n
@@ -124,14 +136,14 @@ known-if true number numbered = inl refl
 known-if false number numbered = inr numbered
 
 wrong-number : (digital : Bool) (event : Event (List ℤ)) (n : ℕ) → WrongFor n digital event → Numbered n
-wrong-number digital (sample window) n (inl (is, out)) = omega arith
-wrong-number digital (sample window) n (inr (inl (is, one))) = omega arith
-wrong-number digital (sample window) n (inr (inr (is, none))) = omega arith
-wrong-number digital (limit current) n (is, above) = omega arith
-wrong-number digital (measure lines) n (is, above) = omega arith
-wrong-number digital (link granted) n (inl (is, plain)) = omega arith
-wrong-number digital (link granted) n (inr (is, marked, above)) = omega arith
-wrong-number digital (fault kind) n (is, out) = omega arith
+wrong-number digital (sample window) n (inl (is, out)) = (omega arith, inl (omega arith))
+wrong-number digital (sample window) n (inr (inl (is, one))) = (omega arith, inl (omega arith))
+wrong-number digital (sample window) n (inr (inr (is, none))) = (omega arith, inl (omega arith))
+wrong-number digital (limit current) n (is, above) = (omega arith, inr (omega arith, omega arith))
+wrong-number digital (measure lines) n (is, above) = (omega arith, inl (omega arith))
+wrong-number digital (link granted) n (inl (is, plain)) = (omega arith, inr (omega arith, omega arith))
+wrong-number digital (link granted) n (inr (is, marked, above)) = (omega arith, inr (omega arith, omega arith))
+wrong-number digital (fault kind) n (is, out) = (omega arith, inl (omega arith))
 wrong-number digital clear n none = absurd none
 wrong-number digital tick n none = absurd none
 
@@ -142,11 +154,11 @@ window-number window (refused number) e = inr (wrong-number true (sample window)
 argument-number : (digital : Bool) (event : Event (List ℤ)) → Known (argumentRefusal digital (evaluated event))
 unfolding evaluated argumentRefusal linkRefusal
 argument-number digital (sample window) = window-number window (evaluate window) refl
-argument-number digital (limit current) = known-if (limitAllowed current) 13 (omega arith)
-argument-number digital (measure lines) = known-if (linesAllowed lines) 7 (omega arith)
-argument-number true (link granted) = known-if (grantAllowed granted) 11 (omega arith)
-argument-number false (link granted) = inr (omega arith)
-argument-number digital (fault kind) = known-if (kindAllowed kind) 8 (omega arith)
+argument-number digital (limit current) = known-if (limitAllowed current) 13 (omega arith, inr (omega arith, omega arith))
+argument-number digital (measure lines) = known-if (linesAllowed lines) 7 (omega arith, inl (omega arith))
+argument-number true (link granted) = known-if (grantAllowed granted) 11 (omega arith, inr (omega arith, omega arith))
+argument-number false (link granted) = inr (omega arith, inr (omega arith, omega arith))
+argument-number digital (fault kind) = known-if (kindAllowed kind) 8 (omega arith, inl (omega arith))
 argument-number digital clear = inl refl
 argument-number digital tick = inl refl
 
@@ -195,7 +207,11 @@ module _ (lent : Lent) (call : Call) where
         seven = through 7 (omega arith) (seven-for (lent .state .settings .digital) (call .event));
         thirteen = through 13 (omega arith) (thirteen-for (lent .state .settings .digital) (call .event));
         none = (λ e. none (way lent call) e, λ h. none-back (way lent call) (argument-number (lent .state .settings .digital) (call .event)) h);
-        no-other = omega (arith, few (way lent call) (argument-number (lent .state .settings .digital) (call .event)));
+        no-other = (
+          omega (arith, at-most (lentRefusal lent (evaluatedCall call)) range),
+          λ e. absurd (omega (arith, skips (lentRefusal lent (evaluatedCall call)) range (omega arith))),
+          λ e. absurd (omega (arith, skips (lentRefusal lent (evaluatedCall call)) range (omega arith))),
+        );
       }
     where
       three : Way lent call → lentRefusal lent (evaluatedCall call) ≡ 3 → largestTime < call .time
@@ -247,7 +263,7 @@ module _ (lent : Lent) (call : Call) where
       later-back n big (judged is h) all = is ∙ arguments (lent .state .settings .digital) (call .event) n big .1 (all .1)
 
       -- what else one number's condition means
-      through : (n : ℕ) → 4 ≤ n → {X : Type 0} → WrongFor n (lent .state .settings .digital) (call .event) ↔ X
+      through : {X : Type 0} (n : ℕ) → 4 ≤ n → WrongFor n (lent .state .settings .digital) (call .event) ↔ X
           → (lentRefusal lent (evaluatedCall call) ≡ n) ↔ (ArgumentsAsked lent call × X)
       through n big means = (
         λ e. let both = later n big (way lent call) e in (both .0, means .0 (both .1)),
@@ -274,10 +290,13 @@ module _ (lent : Lent) (call : Call) where
       none-back (judged is h) (inl zero) all = is ∙ zero
       none-back (judged is h) (inr big) all = absurd (all .1 _ (arguments (lent .state .settings .digital) (call .event) _ (big .0) .0 refl))
 
-      few : Way lent call → Known (argumentRefusal (lent .state .settings .digital) (evaluated (call .event)))
-          → (lentRefusal lent (evaluatedCall call) ≤ 13) × (lentRefusal lent (evaluatedCall call) ≡ 9 → ⊥) × (lentRefusal lent (evaluatedCall call) ≡ 10 → ⊥)
-      few (late is h) number = omega arith
-      few (early is h k) number = omega arith
-      few (changed is h k) number = omega arith
-      few (judged is h) (inl zero) = omega arith
-      few (judged is h) (inr numbered) = omega arith
+      few : Way lent call → Known (argumentRefusal (lent .state .settings .digital) (evaluated (call .event))) → Few (lentRefusal lent (evaluatedCall call))
+      few (late is h) number = inl (omega arith)
+      few (early is h k) number = inl (omega arith)
+      few (changed is h k) number = inl (omega arith)
+      few (judged is h) (inl zero) = inl (omega arith)
+      few (judged is h) (inr (big, inl small)) = inl (omega arith)
+      few (judged is h) (inr (big, inr (from, to))) = inr (omega arith, omega arith)
+
+      range : Few (lentRefusal lent (evaluatedCall call))
+      range = few (way lent call) (argument-number (lent .state .settings .digital) (call .event))

@@ -1,11 +1,10 @@
 -- The number where the test fails.
-use mathlib.Core.Path.{_∙_, ap}
-use mathlib.Core.Bool.{cond}
+use mathlib.Core.Path.{_∙_}
 use Rattle.events.proofs.refusals.kind_refusal.Statement.{statement}
 use Rattle.events.proofs.refusals.kind_refusal.Tie as tie
 
 returns : tie.Need-returns
-returns c = c .number-unless .ensures ∙ ap (λ allowed. cond allowed 0 8) (c .before .kind-allowed .ensures)
+returns c = c .number-unless .ensures ∙ rw (c .before .kind-allowed .ensures)
 
 pub kind-refusal-spec : {M : Type 1} → statement M
 kind-refusal-spec = tie.close (tie.spec (λ c κs. tt) (λ c κs. tt) returns)
