@@ -3,7 +3,8 @@
 use crate::grant;
 use crate::latched::Latched;
 use crate::running::{overrun, overrun_so_far, stop};
-use crate::turn::{Sample, Turn};
+use crate::turn::{Sample, Silence, Turn};
+use crate::unsound::Unsound;
 use crate::words::{fault, faults, grouped, letter, refusal, too_low, NUMERALS};
 use chuldariin_log::Call;
 
@@ -13,6 +14,8 @@ pub enum Kind {
     Closed,
     Opened,
     Refused,
+    /// Nothing was judged, or the post did otherwise than commanded.
+    Warned,
     /// Any other that is worth a line.
     Event,
 }
@@ -25,12 +28,16 @@ pub struct Note {
 
 /// All that is to be said of a call; mostly nothing.
 pub fn notes(turn: &Turn) -> Vec<Note> {
+    let silence = turn
+        .silence
+        .map(|silence| note(Kind::Warned, silent(&silence)));
     if !turn.accepted() {
         let words = format!("REFUSED {}: {}", turn.reply.refusal, refusal(turn));
-        return vec![note(Kind::Refused, words)];
+        let refused = note(Kind::Refused, words);
+        return [Some(refused), silence].into_iter().flatten().collect();
     }
     if let Call::Begin(_) = turn.call {
-        return begun(turn);
+        return begun(turn).into_iter().chain(silence).collect();
     }
     let mut notes = Vec::new();
     if turn.outcome.opened {
@@ -48,10 +55,18 @@ pub fn notes(turn: &Turn) -> Vec<Note> {
     ];
     let others = others.into_iter().flatten();
     notes.extend(others.map(|words| note(Kind::Event, words)));
+    notes.extend(silence);
     notes
 }
 
-fn note(kind: Kind, words: String) -> Note {
+/// A time without an accepted call.
+pub fn silent(silence: &Silence) -> String {
+    let judged = if silence.over { "was" } else { "is" };
+    let long = grouped(silence.long());
+    format!("no accepted call for {long} ms while closed: the 80 ms rule {judged} not judged")
+}
+
+pub fn note(kind: Kind, words: String) -> Note {
     Note { kind, words }
 }
 
@@ -67,8 +82,12 @@ fn begun(turn: &Turn) -> Vec<Note> {
     } else {
         ""
     };
+    let list = match turn.list {
+        1 => "a new list".to_string(),
+        list => format!("list {list}"),
+    };
     let words =
-        format!("a new list begins: pause {pause} ms{given}, {ventilation} ventilation{digital}");
+        format!("{list} begins: pause {pause} ms{given}, {ventilation} ventilation{digital}");
     let mut notes = vec![note(Kind::Event, words)];
     if turn.begun_while_closed() {
         notes.insert(
@@ -177,7 +196,8 @@ fn opened(turn: &Turn) -> String {
 pub fn because(turn: &Turn, cause: usize) -> String {
     match (cause, turn.sample, turn.previous) {
         (0, Some(this), Ok(previous)) => format!(
-            "two unsound samples in a row: {}",
+            "two unsound samples in a row, {}: {}",
+            Unsound::of(&previous, &this).words(),
             both_off(&previous, &this, unsound)
         ),
         (1, _, _) => match turn.after.sound {

@@ -24,7 +24,11 @@ pub fn conditions(turn: &Turn) -> Vec<Condition> {
     };
     let mut conditions = vec![
         condition("contactor open before", found.open_before, String::new()),
-        condition("not opened in this call", found.not_opened, String::new()),
+        condition(
+            "opened before, if at all",
+            found.not_opened,
+            opened_detail(turn),
+        ),
         condition("a sample call", found.sample, call(turn)),
         condition("wave driven", found.wave_driven, wave_detail(turn)),
         condition("this sample proven", found.this_proven, this_detail(turn)),
@@ -56,6 +60,14 @@ fn found(turn: &Turn) -> Conditions {
             ..Conditions::default()
         },
         _ => turn.outcome.conditions,
+    }
+}
+
+/// A double negative is hard to read, so the condition is told as what has to be.
+fn opened_detail(turn: &Turn) -> String {
+    match found(turn).not_opened {
+        true => String::new(),
+        false => "this call opened it".to_string(),
     }
 }
 
@@ -197,8 +209,10 @@ fn waits_for_wave(state: &State) -> Vec<String> {
     let settled = match state.settled {
         None => "a settled state (it is U)",
         Some(Band::A) => "a van (the state is A)",
-        Some(Band::E) => "another state than E",
-        Some(Band::D) if !state.ventilation => "another state than D, without ventilation",
+        Some(Band::E) => "a state other than E (a short circuit, or no power)",
+        Some(Band::D) if !state.ventilation => {
+            "a state other than D (D wants ventilation, and the post has none)"
+        }
         Some(_) => return waits,
     };
     waits.push(settled.to_string());

@@ -1,10 +1,12 @@
 //! The command `demo`: a charging day, shortened to less than a minute.
 
+use crate::fold::width_of_stdout;
 use crate::input::Log;
 use crate::paint::Paint;
 use crate::plot::{plot, WHOLE};
 use crate::progress::Progress;
-use crate::replay::{replay, Only};
+use crate::replay::{replay, Only, Show};
+use crate::write::whole;
 use std::error::Error;
 use std::fmt::Write as _;
 use std::io::Write;
@@ -140,13 +142,18 @@ pub fn demo(folder: &str, paint: Paint, out: &mut impl Write) -> Result<(), Box<
     let log = Log::of(text.as_bytes())?;
     let (file, picture) = (format!("{folder}/day.log"), format!("{folder}/day.svg"));
     std::fs::create_dir_all(Path::new(folder)).map_err(|error| format!("{folder}: {error}"))?;
-    write(&file, &text)?;
-    write(&picture, &plot(&log, "day.log", WHOLE)?)?;
+    whole(&file, &text)?;
+    whole(&picture, &plot(&log, "day.log", WHOLE)?)?;
     writeln!(
         out,
         "A charging day, replayed through the proved controller. Lines where something changed:\n"
     )?;
-    replay(&log, Only::Changes, paint, Progress::none(), out)?;
+    let show = Show {
+        paint,
+        width: width_of_stdout(),
+        ..Show::text(Only::Changes)
+    };
+    replay(&log, WHOLE, show, Progress::none(), out)?;
     let (name, file) = (name(), quoted(&file));
     writeln!(out, "\nlog      {file}")?;
     writeln!(out, "picture  {}", quoted(&picture))?;
@@ -172,9 +179,4 @@ fn quoted(word: &str) -> String {
         true => word.to_string(),
         false => format!("'{}'", word.replace('\'', "'\\''")),
     }
-}
-
-/// Writes a file; the error names it.
-pub fn write(name: &str, text: &str) -> Result<(), Box<dyn Error>> {
-    std::fs::write(name, text).map_err(|error| format!("{name}: can't be written: {error}").into())
 }

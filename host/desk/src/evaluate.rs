@@ -1,6 +1,23 @@
-//! Window to levels, by sorting: the model's way is obvious, and too slow for a million windows.
+//! Window to levels by sorting, and duties that are looked up again: the model's ways are obvious, and too slow for a
+//! million calls.
 
-use chuldariin_model::{Evaluated, ENOUGH, LONGEST, NEAR, READING_END, SHORTEST};
+use chuldariin_model::{duty_for, Evaluated, ENOUGH, LONGEST, NEAR, READING_END, SHORTEST};
+use std::cell::Cell;
+
+thread_local! {
+    /// The last current that a duty was asked for, and the model's answer.
+    static LAST: Cell<(u32, Result<u32, u8>)> = Cell::new((0, duty_for(0)));
+}
+
+/// The model's duty for a current. A log asks for the same one again and again, so its last answer is kept.
+pub fn remembered(available: u32) -> Result<u32, u8> {
+    LAST.with(|last| {
+        if last.get().0 != available {
+            last.set((available, duty_for(available)));
+        }
+        last.get().1
+    })
+}
 
 /// High and low level, or refusal 4, 5 or 6.
 pub fn evaluate(readings: &[i32]) -> Evaluated {

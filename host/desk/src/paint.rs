@@ -21,6 +21,11 @@ impl Paint {
         Paint(wanted && able && std::io::stdout().is_terminal())
     }
 
+    /// Colours wherever it goes.
+    pub fn always() -> Paint {
+        Paint(true)
+    }
+
     pub fn none() -> Paint {
         Paint(false)
     }

@@ -1,21 +1,24 @@
-//! What a whole log comes to.
+//! What a whole log comes to, in numbers.
 
+use crate::case::{Case, Seen, What};
+use crate::contact::{Event, Fails};
 use crate::latched::Latched;
-use crate::turn::Turn;
-use crate::words::{counted, fault, grouped, CAUSES, NUMERALS, REFUSALS};
-use std::io::{self, Write};
+use crate::lists::Moment;
+use crate::turn::{Silence, Turn, LARGEST_TIME};
+use crate::unsound::{Unsound, UNSOUND};
+use crate::words::REFUSALS;
 
 /// Two closings in a row of one list.
-#[derive(Clone, Copy)]
-struct Spacing {
-    first: u64,
-    second: u64,
-    pause: u64,
+#[derive(Clone, Copy, Debug)]
+pub struct Spacing {
+    pub first: Moment,
+    pub second: Moment,
+    pub pause: u64,
 }
 
 impl Spacing {
-    fn apart(&self) -> u64 {
-        self.second - self.first
+    pub fn apart(&self) -> u64 {
+        self.second.time - self.first.time
     }
 
     fn kept(&self) -> bool {
@@ -25,64 +28,235 @@ impl Spacing {
 
 /// The refusals' numbers, from 0 on.
 const NUMBERS: usize = REFUSALS[REFUSALS.len() - 1].0 + 1;
+/// So many texts of a panel are told apart.
+const TEXTS: usize = 20;
+
+/// The contactor's switching.
+#[derive(Clone, Debug, Default)]
+pub struct Switching {
+    pub closings: u64,
+    pub openings: u64,
+    pub by_begin: u64,
+    pub several: u64,
+    /// Openings that are more than a van that ends its charge or is unplugged.
+    pub troubled: u64,
+    pub causes: [u64; 5],
+    /// What cause (i) was, in the order of `UNSOUND`.
+    pub unsound: [u64; UNSOUND.len()],
+    /// Time commanded closed, ms.
+    pub closed: u64,
+    pub shortest: Option<Spacing>,
+    /// Closings that came too soon; the proofs say that there are none.
+    pub broken: u64,
+    /// The shortest time between closings across a begin on one clock.
+    pub across: Option<u64>,
+    last_closing: Option<u64>,
+    /// The last closing before the present list, where the clock runs on.
+    closing_before: Option<u64>,
+}
+
+/// Times without an accepted call while closed.
+#[derive(Clone, Copy, Debug, Default)]
+pub struct Silences {
+    pub count: u64,
+    pub longest: Option<(u32, Silence)>,
+}
+
+/// What the post recorded, against what was commanded.
+#[derive(Clone, Debug, Default)]
+pub struct Records {
+    /// `told` lines, those of them that differ, and the parts in which they do.
+    pub told: u64,
+    pub differ: u64,
+    pub parts: Vec<(&'static str, u64)>,
+    pub contacts: u64,
+    /// How often the contact moved without a command.
+    pub moved: u64,
+    /// How often the contact did not open, or not close, and the longest of each, ms.
+    pub welded: (u64, u64),
+    pub not_closing: (u64, u64),
+    pub panel: Vec<Shown>,
+    /// The text that stands there, and the contact as it was last reported.
+    shown: Option<usize>,
+    contact: Option<bool>,
+    since: u64,
+}
+
+/// A text of the panel: how long it stood, and how long of it the contactor was commanded open, and the contact open.
+#[derive(Clone, Debug, Default)]
+pub struct Shown {
+    pub text: String,
+    pub long: u64,
+    pub commanded_open: u64,
+    pub contact_open: u64,
+}
 
 /// Counts over a log.
-#[derive(Default)]
+#[derive(Clone, Debug, Default)]
 pub struct Summary {
-    calls: u64,
-    begins: u64,
-    closings: u64,
-    openings: u64,
-    by_begin: u64,
-    several: u64,
-    causes: [u64; 5],
+    pub calls: u64,
+    pub lists: u32,
     /// By number; no call is refused 0, 9 or 10.
-    refusals: [u64; NUMBERS],
+    pub refusals: [u64; NUMBERS],
     /// How often others came behind a fault, by its number; 0 is no fault.
-    firsts: [u64; 6],
-    last_closing: Option<u64>,
-    shortest: Option<Spacing>,
-    /// Closings that came too soon; the proofs say that there are none.
-    broken: u64,
-    /// The last closing before the present list, where the clock runs on, and the shortest time from such a one.
-    closing_before: Option<u64>,
-    across: Option<u64>,
-    /// Calls refused in a row, up to now, and what held since.
-    refused_now: u64,
-    held: Option<(u64, bool)>,
+    pub firsts: [u64; 6],
+    pub switching: Switching,
+    pub silences: Silences,
+    pub records: Records,
+    /// From its first begin to its last time.
+    pub span: Option<(Moment, Moment)>,
+    /// The time of all lists, ms.
+    pub long: u64,
+    /// Calls refused in a row, up to now.
+    pub refused_now: u64,
+    /// The last accepted call, and whether it left the contactor closed.
+    pub held: Option<(Moment, bool)>,
+    /// The silence that goes on.
+    unjudged: Option<u64>,
 }
 
 impl Summary {
-    pub fn see(&mut self, turn: &Turn) {
+    pub fn refused(&self) -> u64 {
+        self.refusals.iter().sum()
+    }
+
+    /// The longest silence, ms.
+    pub fn longest_silence(&self) -> u64 {
+        let longest = self.silences.longest;
+        longest.map_or(0, |longest| longest.1.long())
+    }
+
+    /// One more line.
+    pub fn see(&mut self, seen: &Seen) {
+        match &seen.what {
+            What::Call(turn) => self.call(turn, seen.moment),
+            What::Told(_, Some(differences)) => {
+                self.records.told += 1;
+                self.records.differ += u64::from(!differences.is_empty());
+                for difference in differences {
+                    count(&mut self.records.parts, difference.part);
+                }
+            }
+            What::Contact(closed) => {
+                self.passes(seen.moment.time);
+                self.records.contacts += 1;
+                self.records.contact = Some(*closed);
+            }
+            What::Panel(text) => {
+                self.passes(seen.moment.time);
+                self.records.shows(text);
+            }
+            _ => {}
+        }
+        match seen.contact {
+            Some(Event::Ends(failing, long)) => self.records.failed(failing.fails, long),
+            Some(Event::Moves(_)) => self.records.moved += 1,
+            Some(Event::Fails(..)) | None => {}
+        }
+    }
+
+    fn call(&mut self, turn: &Turn, moment: Moment) {
         self.calls += 1;
+        self.silences.see(turn);
         if !turn.accepted() {
             self.refusals[turn.reply.refusal as usize] += 1;
             self.refused_now += 1;
+            if let (Some(time), true) = (turn.credible_time(), turn.before.closed) {
+                let unjudged = self.unjudged.unwrap_or(0);
+                self.unjudged = Some(unjudged.max(time));
+            }
             return;
         }
+        self.goes_on(turn);
         self.refused_now = 0;
-        self.held = Some((turn.after.last, turn.reply.closed));
+        self.unjudged = None;
+        self.held = Some((moment, turn.reply.closed));
         if turn.begins() {
-            self.begin(turn);
+            self.lists += 1;
+            self.switching.begin(turn);
         }
         if turn.outcome.opened {
-            self.opening(turn);
+            self.switching.opening(turn);
         }
         if turn.outcome.closing {
-            self.closing(turn.after.last, turn.after.pause);
+            self.switching.closing(moment, turn.after.pause);
         }
         if turn.outcome.latched.contains(&true) {
             self.latched(turn);
         }
     }
 
+    /// Time went on up to an accepted call.
+    fn goes_on(&mut self, turn: &Turn) {
+        let anew = turn.begins() && !turn.clock_runs_on();
+        let until = if anew {
+            self.unjudged.unwrap_or(0)
+        } else {
+            turn.after.last
+        };
+        let passed = until.saturating_sub(turn.before.last);
+        if turn.begun && turn.before.closed {
+            self.switching.closed += passed;
+        }
+        if turn.begun {
+            self.records.passes(until, turn.before.closed);
+        }
+        if turn.begins() {
+            self.records.since = turn.after.last;
+        }
+    }
+
+    /// Time went on up to a record, unless its time is one that no call can have.
+    fn passes(&mut self, time: u64) {
+        let closed = self.held.is_some_and(|held| held.1);
+        if time <= LARGEST_TIME {
+            self.records.passes(time, closed);
+        }
+    }
+
+    /// However many come behind a fault before a clear, it is counted once: when the second is latched.
+    fn latched(&mut self, turn: &Turn) {
+        let count = |state| Latched::of(state).numbers().count();
+        if count(&turn.before) < 2 && count(&turn.after) > 1 {
+            self.firsts[usize::from(turn.reply.fault)] += 1;
+        }
+    }
+
+    /// The log is over.
+    pub fn finish(&mut self, case: &Case) {
+        if let Some((failing, long)) = case.contact_at_end() {
+            self.records.failed(failing.fails, long);
+        }
+        let lists = 1..=case.lists.count();
+        self.long = lists
+            .filter_map(|list| case.lists.get(list))
+            .map(|list| list.end - list.begin)
+            .sum();
+        let last = case.lists.get(case.lists.count());
+        if let (Some(first), Some(last)) = (case.lists.get(1), last) {
+            let from = Moment {
+                list: 1,
+                time: first.begin,
+            };
+            self.span = Some((from, case.lists.now(last.end)));
+        }
+        if let (Some((held, closed)), Some(last)) = (self.held, last) {
+            let passed = last.end.saturating_sub(held.time);
+            self.switching.closed += if closed { passed } else { 0 };
+            self.records.passes(last.end, closed);
+        }
+        if let (Some(to), Some((held, true))) = (self.unjudged, self.held) {
+            self.silences.goes_on(held, to);
+        }
+    }
+}
+
+impl Switching {
     fn begin(&mut self, turn: &Turn) {
-        self.begins += 1;
         self.by_begin += u64::from(turn.begun_while_closed());
         // A clock that starts anew tells nothing of the time between.
-        let runs_on = turn.begun && turn.after.last >= turn.before.last;
         let last = self.last_closing.or(self.closing_before);
-        self.closing_before = last.filter(|_| runs_on);
+        self.closing_before = last.filter(|_| turn.clock_runs_on());
         self.last_closing = None;
     }
 
@@ -93,14 +267,26 @@ impl Summary {
         for (count, held) in self.causes.iter_mut().zip(held) {
             *count += held;
         }
+        let unsound = Unsound::behind(turn);
+        let place = UNSOUND.iter().position(|kind| Some(*kind) == unsound);
+        if let Some(place) = place {
+            self.unsound[place] += 1;
+        }
+        let is_alone = held.iter().sum::<u64>() == 1;
+        let is_usual = is_alone && unsound.is_some_and(Unsound::is_usual);
+        self.troubled += u64::from(!is_usual);
     }
 
-    fn closing(&mut self, time: u64, pause: u64) {
+    fn closing(&mut self, moment: Moment, pause: u64) {
         self.closings += 1;
+        let time = moment.time;
         if let Some(first) = self.last_closing {
             let spacing = Spacing {
-                first,
-                second: time,
+                first: Moment {
+                    time: first,
+                    ..moment
+                },
+                second: moment,
                 pause,
             };
             self.broken += u64::from(!spacing.kept());
@@ -115,124 +301,82 @@ impl Summary {
         self.last_closing = Some(time);
     }
 
-    /// However many come behind a fault before a clear, it is counted once: when the second is latched.
-    fn latched(&mut self, turn: &Turn) {
-        let count = |state| Latched::of(state).numbers().count();
-        if count(&turn.before) < 2 && count(&turn.after) > 1 {
-            self.firsts[usize::from(turn.reply.fault)] += 1;
+    /// Openings, those by a begin included.
+    pub fn all_openings(&self) -> u64 {
+        self.openings + self.by_begin
+    }
+}
+
+impl Silences {
+    fn see(&mut self, turn: &Turn) {
+        let Some(silence) = turn.silence else { return };
+        if silence.over {
+            // A begin ends the silence of the list before it.
+            self.add(turn.list - u32::from(turn.begins()), silence);
         }
     }
 
-    pub fn print(&self, out: &mut impl Write) -> io::Result<()> {
-        let refused: u64 = self.refusals.iter().sum();
-        let accepted = grouped(self.calls - refused);
-        let lists = match self.begins {
-            0 | 1 => String::new(),
-            begins => format!(", in {} lists (begins)", grouped(begins)),
+    /// A silence that no accepted call ends.
+    fn goes_on(&mut self, held: Moment, to: u64) {
+        let from = held.time;
+        let over = false;
+        if to - from > crate::turn::SILENT {
+            self.add(held.list, Silence { from, to, over });
+        }
+    }
+
+    fn add(&mut self, list: u32, silence: Silence) {
+        self.count += 1;
+        let is_longer = |longest: (u32, Silence)| longest.1.long() < silence.long();
+        if self.longest.is_none_or(is_longer) {
+            self.longest = Some((list, silence));
+        }
+    }
+}
+
+impl Records {
+    fn failed(&mut self, fails: Fails, long: u64) {
+        let (count, longest) = match fails {
+            Fails::Welded => &mut self.welded,
+            Fails::NotClosing => &mut self.not_closing,
         };
-        writeln!(out, "\nsummary")?;
-        writeln!(
-            out,
-            "  calls     {}: {accepted} accepted, {} refused{lists}",
-            grouped(self.calls),
-            grouped(refused)
-        )?;
-        writeln!(out, "  closings  {}", grouped(self.closings))?;
-        self.print_openings(out)?;
-        self.print_firsts(out)?;
-        self.print_refusals(out)?;
-        writeln!(out, "  spacing   {}", self.spacing())?;
-        if let Some(apart) = self.across {
-            let apart = grouped(apart);
-            writeln!(out, "            across a begin {apart} ms: a begin starts afresh, and no pause holds there")?;
-        }
-        match (self.refused_now, self.held) {
-            (0, _) => Ok(()),
-            (refused, Some((since, closed))) => writeln!(
-                out,
-                "  end       refused, {} in a row: nothing is judged since {since}, and the contactor stays {}",
-                counted(refused, "call"),
-                if closed { "closed" } else { "open" }
-            ),
-            (_, None) => writeln!(out, "  end       no begin was accepted"),
+        *count += 1;
+        *longest = (*longest).max(long);
+    }
+
+    /// Panel, command and contact stand as they were up to a time.
+    fn passes(&mut self, time: u64, closed: bool) {
+        let passed = time.saturating_sub(self.since);
+        self.since = self.since.max(time);
+        let contact_open = self.contact == Some(false);
+        if let Some(shown) = self.shown.and_then(|shown| self.panel.get_mut(shown)) {
+            shown.long += passed;
+            shown.commanded_open += if closed { 0 } else { passed };
+            shown.contact_open += if contact_open { passed } else { 0 };
         }
     }
 
-    fn print_openings(&self, out: &mut impl Write) -> io::Result<()> {
-        writeln!(
-            out,
-            "  openings  {}",
-            grouped(self.openings + self.by_begin)
-        )?;
-        for (cause, count) in self.causes.iter().enumerate() {
-            if *count > 0 {
-                let numeral = format!("({})", NUMERALS[cause]);
-                writeln!(
-                    out,
-                    "    {:>7}  {numeral:<5} {}",
-                    grouped(*count),
-                    CAUSES[cause]
-                )?;
-            }
+    /// The panel shows another text.
+    fn shows(&mut self, text: &str) {
+        let known = self.panel.iter().position(|shown| shown.text == text);
+        if known.is_none() && self.panel.len() < TEXTS {
+            self.panel.push(Shown {
+                text: text.to_string(),
+                ..Shown::default()
+            });
         }
-        if self.by_begin > 0 {
-            writeln!(out, "    {:>7}  by a new begin", grouped(self.by_begin))?;
-        }
-        if self.several > 0 {
-            let several = grouped(self.several);
-            writeln!(
-                out,
-                "    {several:>7}  of them had more than one cause, and count under each"
-            )?;
-        }
-        Ok(())
+        self.shown = self.panel.iter().position(|shown| shown.text == text);
     }
 
-    /// Which fault was first, where there is a question of it.
-    fn print_firsts(&self, out: &mut impl Write) -> io::Result<()> {
-        let times = self.firsts.iter().sum();
-        if times > 0 {
-            let times = counted(times, "time");
-            writeln!(out, "  faults    behind another {times}; the first was")?;
-        }
-        for (number, count) in (0..).zip(self.firsts) {
-            if count > 0 {
-                let name = fault(number);
-                writeln!(out, "    {:>7}  {number:<5} {name}", grouped(count))?;
-            }
-        }
-        Ok(())
+    /// How often the contact was not as commanded.
+    pub fn contact(&self) -> u64 {
+        self.moved + self.welded.0 + self.not_closing.0
     }
+}
 
-    fn print_refusals(&self, out: &mut impl Write) -> io::Result<()> {
-        writeln!(
-            out,
-            "  refusals  {}",
-            grouped(self.refusals.iter().sum::<u64>())
-        )?;
-        for (number, words) in REFUSALS {
-            let count = self.refusals[number];
-            if count > 0 {
-                writeln!(out, "    {:>7}  {number:<5} {words}", grouped(count))?;
-            }
-        }
-        Ok(())
-    }
-
-    /// The shortest time between two closings, against the pause.
-    fn spacing(&self) -> String {
-        match self.shortest {
-            None => "no two closings in one list".to_string(),
-            Some(spacing) => {
-                format!(
-                "shortest time between two closings {} ms (at {} and {}); the pause is {} ms: {}",
-                grouped(spacing.apart()),
-                spacing.first,
-                spacing.second,
-                grouped(spacing.pause),
-                if self.broken == 0 { "kept" } else { "NOT KEPT" }
-            )
-            }
-        }
+fn count(parts: &mut Vec<(&'static str, u64)>, part: &'static str) {
+    match parts.iter_mut().find(|counted| counted.0 == part) {
+        Some(counted) => counted.1 += 1,
+        None => parts.push((part, 1)),
     }
 }

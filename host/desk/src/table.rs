@@ -1,146 +1,374 @@
 //! The replay as a table: one aligned line a call.
 
+use crate::case::Seen;
 use crate::causes::{Kind, Note};
+use crate::fold::{cut, Place};
+use crate::input::Shape;
 use crate::paint::{Colour, Paint};
 use crate::turn::Turn;
 use crate::words::{call, grouped, letter, lines, reply_fault, wave};
-use chuldariin_log::{Call, Entry, Line};
+use chuldariin::raw;
+use chuldariin_log::record::{contact_word, state_word};
+use chuldariin_log::Record;
 use chuldariin_model::Verdict;
 use std::io::{self, Write};
 
-/// The width of the column for the current on each line: 200,000 three times.
+/// The widths of columns: a call, a sample, what a reply tells.
+const CALL: usize = 24;
+const SAMPLE: usize = 10;
+const REPLY: usize = 5 + 2 + 16 + 2 + 9 + 2 + 19 + 2 + 8;
+/// The column for the current on each line: 200,000 three times.
 const LINES: usize = 23;
-/// The width of the column for the grant: its heading.
+/// The column for the grant: its heading.
 const GRANT: usize = 10;
+/// The column for the wall's clock: a date with ms, in UTC.
+const WALL: usize = 24;
+
+/// Which columns there are, and how wide.
+#[derive(Clone, Copy, Debug, PartialEq, Eq)]
+struct Columns {
+    line: usize,
+    time: usize,
+    /// The wall's clock is told.
+    wall: bool,
+    /// A begin is digital, so there is a column for the grant.
+    digital: bool,
+    /// A measure has a current for each line.
+    three_lines: bool,
+}
+
+impl Columns {
+    fn of(shape: &Shape) -> Columns {
+        let list = match shape.lists {
+            0 | 1 => 0,
+            lists => lists.to_string().len() + 1,
+        };
+        Columns {
+            line: shape.last_line.to_string().len().max(4),
+            time: (shape.last_time.to_string().len() + list).max(5),
+            wall: shape.wall,
+            digital: shape.digital,
+            three_lines: shape.three_lines,
+        }
+    }
+
+    /// The width of all of them.
+    fn width(&self) -> usize {
+        let wall = if self.wall { WALL + 2 } else { 0 };
+        let grant = if self.digital { GRANT + 2 } else { 0 };
+        let lines = if self.three_lines { LINES + 2 } else { 0 };
+        self.line + 2 + self.time + 2 + wall + CALL + 2 + SAMPLE + 2 + REPLY + grant + lines
+    }
+}
 
 /// Writes the lines of a replay.
 pub struct Table {
     paint: Paint,
-    line_width: usize,
-    time_width: usize,
-    /// A measure has a current for each line, so there is a column for them.
-    three_lines: bool,
-    /// A begin is digital, so there is a column for the grant.
-    digital: bool,
+    /// The width of the terminal.
+    width: Option<usize>,
+    shape: Shape,
+    columns: Columns,
+    headed: bool,
+    row: String,
+    /// The last reply that was written, and its columns.
+    reply: Option<(raw::Reply, String)>,
+    /// The columns of the last reply, without colours and with them.
+    plain: String,
+    painted: String,
 }
 
 impl Table {
-    /// Columns wide enough for these lines.
-    pub fn for_log(entries: &[Entry], paint: Paint) -> Table {
-        let time = |entry: &Entry| match &entry.what {
-            Line::Call(call) => call.time(),
-            Line::Comment(_) => 0,
-        };
-        let last_line = entries.last().map_or(0, |entry| entry.line);
-        let last_time = entries.iter().map(time).max().unwrap_or(0);
+    /// For a log of this shape; of a stream it is not known yet, and grows.
+    pub fn new(shape: Shape, paint: Paint, width: Option<usize>) -> Table {
         Table {
             paint,
-            line_width: last_line.to_string().len().max(4),
-            time_width: last_time.to_string().len().max(5),
-            three_lines: entries.iter().any(three_lines),
-            digital: entries.iter().any(digital),
+            width,
+            columns: Columns::of(&shape),
+            shape,
+            headed: false,
+            row: String::new(),
+            reply: None,
+            plain: String::new(),
+            painted: String::new(),
         }
     }
 
-    pub fn heading(&self, out: &mut impl Write) -> io::Result<()> {
-        let grant = match self.digital {
-            true => format!("  {:>GRANT$}", "grant (mA)"),
-            false => String::new(),
-        };
-        let lines = match self.three_lines {
-            true => format!("  {:<LINES$}", "lines 1, 2, 3 (mA)"),
-            false => String::new(),
-        };
-        let text = format!(
-            "{:>line$}  {:>time$}  {:<24}  {:<10}  {:<5}  {:<16}  {:<9}  {:<19}  {:>8}{grant}{lines}  what happened",
-            "line", "ms", "call", "sample", "state", "wave", "contactor", "fault", "closings",
-            line = self.line_width,
-            time = self.time_width,
+    /// A line that is to be shown soon: it may bring a column.
+    pub fn see(&mut self, entry: &chuldariin_log::Entry) {
+        self.shape.see(entry);
+        let columns = Columns::of(&self.shape);
+        let (before, after) = (self.columns, columns);
+        // Wider columns go on as they are; others get a heading of their own.
+        self.headed &= (before.wall, before.digital, before.three_lines)
+            == (after.wall, after.digital, after.three_lines);
+        self.columns = columns;
+    }
+
+    pub fn heading(&mut self, out: &mut impl Write) -> io::Result<()> {
+        if std::mem::replace(&mut self.headed, true) {
+            return Ok(());
+        }
+        let optional = |there: bool, text: String| if there { text } else { String::new() };
+        let columns = &self.columns;
+        let wall = optional(columns.wall, format!("{:<WALL$}  ", "wall clock"));
+        let grant = optional(columns.digital, format!("  {:>GRANT$}", "grant (mA)"));
+        let lines = optional(
+            columns.three_lines,
+            format!("  {:<LINES$}", "lines 1, 2, 3 (mA)"),
         );
-        writeln!(out, "{}", self.paint.bold(&text))
+        let text = format!(
+            "{:>line$}  {:>time$}  {wall}{:<CALL$}  {:<SAMPLE$}  {:<5}  {:<16}  {:<9}  {:<19}  {:>8}{grant}{lines}  what happened",
+            "line", "ms", "call", "sample", "state", "wave", "contactor", "fault", "closings",
+            line = columns.line,
+            time = columns.time,
+        );
+        let text = cut(&text, self.width);
+        writeln!(out, "{}", self.paint.bold(text))
     }
 
-    pub fn comment(&self, out: &mut impl Write, text: &str) -> io::Result<()> {
-        writeln!(out, "{}", self.paint.dim(&format!("# {}", shown(text))))
-    }
-
-    pub fn row(&self, out: &mut impl Write, turn: &Turn, notes: &[Note]) -> io::Result<()> {
-        write!(
-            out,
-            "{:>line$}  {:>time$}  {:<24}  {:<10}  ",
-            turn.line,
-            turn.call.time(),
-            call(turn),
-            verdict(turn),
-            line = self.line_width,
-            time = self.time_width,
-        )?;
-        self.reply_columns(out, turn)?;
-        if self.digital {
-            write!(out, "  {:>GRANT$}", shown_grant(turn))?;
+    pub fn comment(&mut self, out: &mut impl Write, text: &str) -> io::Result<()> {
+        self.heading(out)?;
+        let place = Place::behind(4, self.width);
+        let text = safe(text);
+        for (number, line) in place.fold(&text).into_iter().enumerate() {
+            let mark = if number == 0 { "# " } else { "#   " };
+            writeln!(out, "{}", self.paint.dim(&format!("{mark}{line}")))?;
         }
-        if self.three_lines {
-            // Nothing is written behind the last word.
-            match notes.is_empty() {
-                true => write!(out, "  {}", shown_lines(turn))?,
-                false => write!(out, "  {:<LINES$}", shown_lines(turn))?,
+        Ok(())
+    }
+
+    /// A call with its reply and what happened.
+    pub fn row(
+        &mut self,
+        out: &mut impl Write,
+        seen: &Seen,
+        turn: &Turn,
+        notes: &[Note],
+    ) -> io::Result<()> {
+        self.heading(out)?;
+        self.front(seen, &call(turn));
+        pad(&mut self.row, &verdict(turn), SAMPLE);
+        self.row.push_str("  ");
+        self.reply_columns(turn);
+        // Colours and a cut do not go together.
+        let is_cut = self.width.is_some_and(|width| self.columns.width() > width);
+        let reply = if is_cut { &self.plain } else { &self.painted };
+        self.row.push_str(reply);
+        if self.columns.digital {
+            let grant = shown_grant(turn);
+            self.row.push_str("  ");
+            right(&mut self.row, &grant, GRANT);
+        }
+        if self.columns.three_lines {
+            self.row.push_str("  ");
+            pad(&mut self.row, &shown_lines(turn), LINES);
+        }
+        self.end(out, notes)
+    }
+
+    /// A line that is no call: what the post recorded, or what was left out.
+    pub fn record(
+        &mut self,
+        out: &mut impl Write,
+        seen: &Seen,
+        words: &str,
+        notes: &[Note],
+    ) -> io::Result<()> {
+        self.heading(out)?;
+        self.front(seen, words);
+        self.end(out, notes)
+    }
+
+    /// A line that was left out.
+    pub fn bad(&mut self, out: &mut impl Write, line: usize, note: Note) -> io::Result<()> {
+        self.heading(out)?;
+        self.row.clear();
+        right(&mut self.row, &line.to_string(), self.columns.line);
+        self.end(out, &[note])
+    }
+
+    /// Line, time and call.
+    fn front(&mut self, seen: &Seen, call: &str) {
+        self.row.clear();
+        right(&mut self.row, &seen.line.to_string(), self.columns.line);
+        self.row.push_str("  ");
+        right(
+            &mut self.row,
+            &seen.moment.shown(seen.moment.list),
+            self.columns.time,
+        );
+        self.row.push_str("  ");
+        if self.columns.wall {
+            let wall = seen.wall.map_or(String::new(), |wall| wall.to_string());
+            pad(&mut self.row, &wall, WALL);
+            self.row.push_str("  ");
+        }
+        pad(&mut self.row, call, CALL);
+        self.row.push_str("  ");
+    }
+
+    /// What the reply tells; the same as before it is made once.
+    fn reply_columns(&mut self, turn: &Turn) {
+        let reply = raw::Reply {
+            refusal: u8::from(turn.tells_nothing()),
+            lines: raw::Lines {
+                line1: 0,
+                line2: 0,
+                line3: 0,
+            },
+            ..turn.reply
+        };
+        let fault = reply_fault(turn);
+        if self
+            .reply
+            .as_ref()
+            .is_some_and(|last| last.0 == reply && last.1 == fault)
+        {
+            return;
+        }
+        let paint = self.paint;
+        (self.plain, self.painted) = match turn.tells_nothing() {
+            true => (nothing(), nothing()),
+            false => (
+                told(&reply, &fault, Paint::none()),
+                told(&reply, &fault, paint),
+            ),
+        };
+        self.reply = Some((reply, fault));
+    }
+
+    /// What happened, behind the columns or below them.
+    fn end(&mut self, out: &mut impl Write, notes: &[Note]) -> io::Result<()> {
+        let columns = self.columns.width();
+        let place = Place::behind(columns + 2, self.width);
+        let row = match columns > self.width.unwrap_or(usize::MAX) {
+            true => cut(&self.row, self.width),
+            false => &self.row,
+        };
+        // Nothing is written behind the last word.
+        match notes.is_empty() {
+            true => writeln!(out, "{}", row.trim_end()),
+            false if place.below => {
+                writeln!(out, "{}", row.trim_end())?;
+                self.folded(out, notes, place, place.indent)
+            }
+            false => {
+                let gap = (columns + 2).saturating_sub(visible(row));
+                write!(out, "{row}{:gap$}", "")?;
+                self.notes(out, notes, place)
             }
         }
-        for (place, note) in notes.iter().enumerate() {
-            let apart = if place == 0 { "  " } else { "; " };
-            write!(out, "{apart}{}", self.note(note))?;
+    }
+
+    fn notes(&self, out: &mut impl Write, notes: &[Note], place: Place) -> io::Result<()> {
+        if place.width.is_some() {
+            return self.folded(out, notes, place, 0);
+        }
+        for (number, note) in notes.iter().enumerate() {
+            let apart = if number == 0 { "" } else { "; " };
+            write!(out, "{apart}{}", self.note(note.kind, &marked(note)))?;
         }
         writeln!(out)
     }
 
-    /// What the reply tells.
-    fn reply_columns(&self, out: &mut impl Write, turn: &Turn) -> io::Result<()> {
-        let reply = &turn.reply;
-        if tells_nothing(turn) {
-            let none = "-";
-            return write!(
-                out,
-                "{none:<5}  {none:<16}  {none:<9}  {none:<19}  {none:>8}"
-            );
+    /// Each note from a line of its own on; the first so far in.
+    fn folded(
+        &self,
+        out: &mut impl Write,
+        notes: &[Note],
+        place: Place,
+        first: usize,
+    ) -> io::Result<()> {
+        let words: Vec<(Kind, String)> =
+            notes.iter().map(|note| (note.kind, marked(note))).collect();
+        let lines = words.iter().flat_map(|(kind, words)| {
+            let lines = place.fold(words).into_iter();
+            lines.map(|line| self.note(*kind, line))
+        });
+        for (number, line) in lines.enumerate() {
+            let indent = if number == 0 { first } else { place.indent };
+            writeln!(out, "{:indent$}{line}", "")?;
         }
-        let contactor = format!("{:<9}", if reply.closed { "closed" } else { "open" });
-        let contactor = match reply.closed {
-            true => self.paint.colour(Colour::Green, &contactor),
-            false => contactor,
-        };
-        let fault = format!("{:<19}", reply_fault(turn));
-        write!(
-            out,
-            "{:<5}  {:<16}  {contactor}  {}  {:>8}",
-            state(reply.letter, reply.digit),
-            wave(reply.wave),
-            self.paint.colour(Colour::Red, &fault),
-            reply.closings,
-        )
+        Ok(())
     }
 
-    fn note(&self, note: &Note) -> String {
-        match note.kind {
-            Kind::Closed => self
-                .paint
-                .colour(Colour::Green, &format!(">> {}", note.words)),
-            Kind::Opened => self
-                .paint
-                .colour(Colour::Red, &format!("<< {}", note.words)),
-            Kind::Refused => self.paint.colour(Colour::Yellow, &note.words),
-            Kind::Event => note.words.clone(),
+    fn note(&self, kind: Kind, words: &str) -> String {
+        match kind {
+            Kind::Closed => self.paint.colour(Colour::Green, words),
+            Kind::Opened | Kind::Warned => self.paint.colour(Colour::Red, words),
+            Kind::Refused => self.paint.colour(Colour::Yellow, words),
+            Kind::Event => words.to_string(),
         }
     }
 }
 
-/// A refused begin comes alone, and before the first begin nothing is commanded.
-fn tells_nothing(turn: &Turn) -> bool {
-    turn.reply.letter == 0 || !turn.begun && !turn.accepted()
+/// A note with what marks it in a text without colours.
+fn marked(note: &Note) -> String {
+    match note.kind {
+        Kind::Closed => format!(">> {}", note.words),
+        Kind::Opened => format!("<< {}", note.words),
+        Kind::Warned => format!("!! {}", note.words),
+        Kind::Refused | Kind::Event => note.words.clone(),
+    }
+}
+
+/// What a reply tells.
+fn told(reply: &raw::Reply, fault: &str, paint: Paint) -> String {
+    let contactor = format!("{:<9}", contact_word(reply.closed));
+    let contactor = match reply.closed {
+        true => paint.colour(Colour::Green, &contactor),
+        false => contactor,
+    };
+    format!(
+        "{:<5}  {:<16}  {contactor}  {}  {:>8}",
+        state_word(reply.letter, reply.digit),
+        wave(reply.wave),
+        paint.colour(Colour::Red, &format!("{fault:<19}")),
+        reply.closings,
+    )
+}
+
+/// The same of a reply that tells nothing.
+fn nothing() -> String {
+    let none = "-";
+    format!("{none:<5}  {none:<16}  {none:<9}  {none:<19}  {none:>8}")
+}
+
+/// A text, and spaces up to a width.
+fn pad(row: &mut String, text: &str, width: usize) {
+    row.push_str(text);
+    let length = if text.is_ascii() {
+        text.len()
+    } else {
+        text.chars().count()
+    };
+    row.extend(std::iter::repeat_n(' ', width.saturating_sub(length)));
+}
+
+/// Spaces up to a width, and a text.
+fn right(row: &mut String, text: &str, width: usize) {
+    row.extend(std::iter::repeat_n(' ', width.saturating_sub(text.len())));
+    row.push_str(text);
+}
+
+/// The letters that a terminal shows: colours take no room.
+fn visible(row: &str) -> usize {
+    let mut shown = 0;
+    let mut coloured = false;
+    for c in row.chars() {
+        match (coloured, c) {
+            (false, '\x1b') => coloured = true,
+            (true, 'm') => coloured = false,
+            (false, _) => shown += 1,
+            (true, _) => {}
+        }
+    }
+    shown
 }
 
 /// The current on each line, as the reply shows it.
 fn shown_lines(turn: &Turn) -> String {
-    match tells_nothing(turn) {
+    match turn.tells_nothing() {
         true => "-".to_string(),
         false => lines(turn.reply.lines.each()),
     }
@@ -148,27 +376,9 @@ fn shown_lines(turn: &Turn) -> String {
 
 /// The grant that the controller keeps: no reply shows it, and a plain post has none.
 fn shown_grant(turn: &Turn) -> String {
-    match tells_nothing(turn) || !turn.after.digital {
+    match turn.tells_nothing() || !turn.after.digital {
         true => "-".to_string(),
         false => grouped(turn.after.grant),
-    }
-}
-
-/// Is it a digital begin?
-fn digital(entry: &Entry) -> bool {
-    matches!(&entry.what, Line::Call(Call::Begin(begin)) if begin.digital)
-}
-
-/// Is it a measure with a current for each line?
-fn three_lines(entry: &Entry) -> bool {
-    matches!(entry.what, Line::Call(Call::MeasureLines(..)))
-}
-
-/// Letter and digit: C2, U.
-pub fn state(letter: u8, digit: u8) -> String {
-    match digit {
-        0 => char::from(letter).to_string(),
-        _ => format!("{}{digit}", char::from(letter)),
     }
 }
 
@@ -181,20 +391,39 @@ fn verdict(turn: &Turn) -> String {
         None => "-",
         band => letter(band),
     };
-    let word = match sample.verdict {
-        Verdict { proven: true, .. } => "proven",
-        Verdict {
-            diode_bad: true, ..
-        } => "no diode",
-        Verdict { sound: true, .. } => "sound",
-        _ if turn.before.closed => "unsound",
-        _ => return band.to_string(),
-    };
-    format!("{band} {word}")
+    match verdict_word(turn) {
+        "" => band.to_string(),
+        word => format!("{band} {word}"),
+    }
 }
 
-/// A comment with nothing in it that a terminal would obey.
-fn shown(text: &str) -> String {
+/// The verdict on a sample in a word, or nothing.
+pub fn verdict_word(turn: &Turn) -> &'static str {
+    match turn.sample.map(|sample| sample.verdict) {
+        None => "",
+        Some(Verdict { proven: true, .. }) => "proven",
+        Some(Verdict {
+            diode_bad: true, ..
+        }) => "no diode",
+        Some(Verdict { sound: true, .. }) => "sound",
+        Some(_) if turn.before.closed => "unsound",
+        Some(_) => "",
+    }
+}
+
+/// A record as a row shows it.
+pub fn record_words(record: &Record) -> String {
+    match record {
+        Record::Told(_) => "told".to_string(),
+        Record::Contact(_, closed) => format!("contact {}", contact_word(*closed)),
+        Record::Panel(_, text) => format!("panel {}", safe(text)),
+        Record::Clock(_, wall) => format!("clock {wall}"),
+        Record::Travel(millis) => format!("travel {} ms", grouped(*millis)),
+    }
+}
+
+/// A text with nothing in it that a terminal would obey.
+pub fn safe(text: &str) -> String {
     let safe = |c: char| {
         if c.is_control() && c != '\t' {
             '\u{fffd}'

@@ -1,6 +1,6 @@
 //! One call of a log, replayed through the archive and explained beside it.
 
-use crate::evaluate::evaluate;
+use crate::evaluate::{evaluate, remembered};
 use chuldariin::raw;
 use chuldariin_log::answer::answer;
 use chuldariin_log::ask::ask;
@@ -48,11 +48,35 @@ impl Overrun {
     }
 }
 
+/// A board calls every 20 ms or sooner. Longer than this without an accepted call, nothing has judged the contactor
+/// in the 100 ms that table A3.4 allows.
+pub const SILENT: u64 = 100;
+
+/// No call is accepted after this time, ms (refusal 3).
+pub const LARGEST_TIME: u64 = 1_000_000_000_000;
+
+/// A time with the contactor closed and no accepted call.
+#[derive(Clone, Copy, Debug, PartialEq, Eq)]
+pub struct Silence {
+    pub from: u64,
+    pub to: u64,
+    /// An accepted call ends it; else a refused one finds it going on.
+    pub over: bool,
+}
+
+impl Silence {
+    pub fn long(&self) -> u64 {
+        self.to - self.from
+    }
+}
+
 /// A call, what the archive told, and why.
 #[derive(Clone, Copy, Debug)]
 pub struct Turn<'a> {
     /// Its line in the log.
     pub line: usize,
+    /// The number of its list, from 1; 0 before the first begin.
+    pub list: u32,
     pub call: &'a Call,
     /// What the archive told.
     pub reply: raw::Reply,
@@ -69,9 +93,38 @@ pub struct Turn<'a> {
     pub previous: Result<Sample, Forgotten>,
     /// The over-run as the call found it.
     pub overrun: Option<Overrun>,
+    /// The silence that it ends, or is the first refused call in.
+    pub silence: Option<Silence>,
 }
 
 impl Turn<'_> {
+    /// The same with a call that lives elsewhere.
+    pub fn with(self, call: &Call) -> Turn<'_> {
+        Turn { call, ..self }
+    }
+
+    /// When the call was made, unless its time is refused itself. A refused begin may be of another clock.
+    pub fn credible_time(&self) -> Option<u64> {
+        let time = self.call.time();
+        let is_earlier = matches!(self.call, Call::Begin(_)) && time < self.before.last;
+        match self.reply.refusal {
+            0 => Some(time),
+            2 | 3 => None,
+            _ if is_earlier => None,
+            _ => Some(time),
+        }
+    }
+
+    /// An accepted begin whose clock is that of the list before it.
+    pub fn clock_runs_on(&self) -> bool {
+        self.begun && self.begins() && self.after.last >= self.before.last
+    }
+
+    /// A refused begin comes alone, and before the first begin nothing is commanded.
+    pub fn tells_nothing(&self) -> bool {
+        self.reply.letter == 0 || !self.begun && !self.accepted()
+    }
+
     /// The over-run as the call leaves it.
     pub fn overrun_after(&self) -> Option<Overrun> {
         let start = self.after.overrun?;
@@ -125,8 +178,11 @@ pub struct Post {
     lent: raw::Controller,
     state: State,
     begun: bool,
+    list: u32,
     previous: Result<Sample, Forgotten>,
     overrun: Option<Overrun>,
+    /// A refused call was found in the present silence.
+    silent: bool,
     room: Room,
 }
 
@@ -137,8 +193,10 @@ impl Default for Post {
             state: meaning(&lent),
             lent,
             begun: false,
+            list: 0,
             previous: Err(Forgotten::Never),
             overrun: None,
+            silent: false,
             room: Room::default(),
         }
     }
@@ -149,7 +207,7 @@ impl Post {
     pub fn turn<'a>(&mut self, line: usize, call: &'a Call) -> Result<Turn<'a>, Differs> {
         let before = self.state;
         let levels = self.levels(call);
-        let (state, outcome) = answer(&before, call, |_| levels, &mut self.room);
+        let (state, outcome) = answer(&before, call, |_| levels, remembered, &mut self.room);
         let reply = ask(&mut self.lent, call, &mut self.room);
         self.state = meaning(&self.lent);
         let mut what = unlike(&reply, &outcome.reply);
@@ -157,8 +215,9 @@ impl Post {
         if !what.is_empty() {
             return Err(Differs { line, what });
         }
-        let turn = Turn {
+        let mut turn = Turn {
             line,
+            list: self.list,
             call,
             reply,
             begun: self.begun,
@@ -171,11 +230,30 @@ impl Post {
                 _ => self.previous,
             },
             overrun: self.overrun,
+            silence: None,
         };
+        self.list += u32::from(turn.begins());
+        turn.list = self.list;
+        turn.silence = self.silence(&turn);
         self.overrun = turn.overrun_after();
         self.begun |= turn.begins();
         self.keep(&turn);
         Ok(turn)
+    }
+
+    /// The silence that a call ends, or is the first refused call in.
+    fn silence(&mut self, turn: &Turn) -> Option<Silence> {
+        let told = self.silent;
+        self.silent &= !turn.accepted();
+        let (from, to) = (turn.before.last, turn.credible_time()?);
+        // A clock that starts anew tells nothing of the time between.
+        let is_long = turn.before.closed && to.checked_sub(from)? > SILENT;
+        if !is_long || (told && !turn.accepted()) {
+            return None;
+        }
+        let over = turn.accepted();
+        self.silent = !over;
+        Some(Silence { from, to, over })
     }
 
     /// The levels of a sample; any refusal does for another call.

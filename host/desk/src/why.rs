@@ -1,38 +1,35 @@
-//! The command `why`: which closing conditions hold at a time, and which do not.
+//! The command `why`: which closing conditions hold at a moment, and which do not.
 
-use crate::causes::{closed, notes, Kind};
+use crate::case::{Case, What};
+use crate::causes::{closed, notes, silent, Kind};
 use crate::conditions::{conditions, waits_for};
+use crate::contact::Failing;
 use crate::grant;
-use crate::input::Log;
+use crate::input::{Log, Taken};
+use crate::lists::{Ask, Lists, Moment};
 use crate::paint::{Colour, Paint};
 use crate::running::fault_2_due;
-use crate::table::state;
-use crate::turn::{Post, Turn};
+use crate::table::safe;
+use crate::turn::{Silence, Turn, SILENT};
 use crate::words::{call, grouped, lines, wave};
+use chuldariin_log::record::{contact_word, state_word};
+use chuldariin_log::{Call, Entry, Line};
 use std::error::Error;
 use std::fmt;
 use std::io::{self, Write};
+use std::rc::Rc;
 
-/// Up to where a log is replayed.
+/// What is asked about.
 #[derive(Clone, Copy, Debug, PartialEq, Eq)]
 pub enum At {
-    Time(u64),
+    Moment(Ask),
     Line(usize),
-}
-
-impl fmt::Display for At {
-    fn fmt(&self, f: &mut fmt::Formatter<'_>) -> fmt::Result {
-        match self {
-            At::Time(time) => write!(f, "{time}"),
-            At::Line(line) => write!(f, "line {line}"),
-        }
-    }
 }
 
 /// Nothing was accepted up to there.
 #[derive(Debug)]
 pub struct TooEarly {
-    at: At,
+    line: usize,
     /// Line and time of the first accepted call, if there is one.
     first: Option<(usize, u64)>,
 }
@@ -42,8 +39,8 @@ impl fmt::Display for TooEarly {
         match self.first {
             Some((line, time)) => write!(
                 f,
-                "no call up to {} is accepted; expected the first accepted call or later: line {line}, at {time}",
-                self.at
+                "no call up to line {} is accepted; expected the first accepted call or later: line {line}, at {time}",
+                self.line
             ),
             None => write!(f, "no call of the log is accepted: nothing has begun"),
         }
@@ -52,59 +49,457 @@ impl fmt::Display for TooEarly {
 
 impl Error for TooEarly {}
 
-/// What is known there.
-#[derive(Clone, Copy, Default)]
-struct Found<'a> {
-    /// The last accepted call up to there.
-    last: Option<Turn<'a>>,
-    /// The present list's last closing and opening.
-    closing: Option<Turn<'a>>,
-    opening: Option<Turn<'a>>,
-    /// The first refused call after it, and how many there were.
-    refused: Option<(Turn<'a>, u64)>,
+/// A call of the log that outlives its line.
+#[derive(Clone)]
+struct Kept {
+    entry: Rc<Entry>,
+    turn: Turn<'static>,
 }
 
-impl<'a> Found<'a> {
-    fn accepted(&mut self, turn: Turn<'a>) {
+/// Any call does: the one that counts is in the entry.
+static NONE: Call = Call::Tick(0);
+
+impl Kept {
+    fn of(entry: &Rc<Entry>, turn: &Turn) -> Kept {
+        Kept {
+            entry: Rc::clone(entry),
+            turn: turn.with(&NONE),
+        }
+    }
+
+    fn turn(&self) -> Turn<'_> {
+        match &self.entry.what {
+            Line::Call(call) => self.turn.with(call),
+            _ => self.turn.with(&NONE),
+        }
+    }
+}
+
+/// What is known there.
+#[derive(Clone, Default)]
+struct Found {
+    /// The last accepted call up to there.
+    last: Option<Kept>,
+    /// The present list's last closing and opening.
+    closing: Option<Kept>,
+    opening: Option<Kept>,
+    /// The first refused call after it, and how many there were.
+    refused: Option<(Kept, u64)>,
+    /// The very call that was asked for, and the line up to which what follows it is part of the answer.
+    asked: Option<Kept>,
+    until: usize,
+    contact: Option<(bool, u64)>,
+    failing: Option<Failing>,
+    panel: Option<(u64, String)>,
+}
+
+impl Found {
+    fn see(&mut self, entry: &Rc<Entry>, turn: &Turn) {
+        let kept = Kept::of(entry, turn);
+        self.asked = Some(kept.clone());
+        self.until = turn.line;
+        if !turn.accepted() {
+            self.refused = match self.refused.take() {
+                None => Some((kept, 1)),
+                Some((first, count)) => Some((first, count + 1)),
+            };
+            return;
+        }
         if turn.begins() {
             (self.closing, self.opening) = (None, None);
         }
         if turn.outcome.closing {
-            self.closing = Some(turn);
+            self.closing = Some(kept.clone());
         }
         if turn.outcome.opened || turn.begun_while_closed() {
-            self.opening = Some(turn);
+            self.opening = Some(kept.clone());
         }
-        self.last = Some(turn);
+        self.last = Some(kept);
         self.refused = None;
     }
 
-    fn refused(&mut self, turn: Turn<'a>) {
-        self.refused = match self.refused {
-            None => Some((turn, 1)),
-            Some((first, count)) => Some((first, count + 1)),
-        };
+    /// A call right behind the one that was asked for, whose own time is refused: it tells of no later moment.
+    fn goes_on(&mut self, later: &Found) {
+        self.refused = later.refused.clone();
+        self.until = later.until;
     }
+
+    /// What the post recorded by then; up to the moment that is asked for a contact may have failed.
+    fn recorded(&mut self, case: &Case, moment: Option<Moment>) {
+        let mut contact = case.contact().clone();
+        contact.at(moment.map_or(0, |moment| moment.time));
+        self.contact = contact.reported();
+        self.failing = contact.is_failing();
+        self.panel = case.panel().cloned();
+    }
+}
+
+/// The answer, and where else the clock passed the time that was asked for.
+struct Answer {
+    found: Found,
+    /// Calls after which the clock stood before that time, and behind it at the next call.
+    others: Vec<(usize, u64)>,
+    lists: Lists,
 }
 
 /// Says why the contactor is open there, or that it is closed.
 pub fn why(log: &Log, at: At, paint: Paint, out: &mut impl Write) -> Result<(), Box<dyn Error>> {
-    let found = find(log, at)?;
-    let Some(last) = found.last else {
-        let first = first_accepted(log)?;
-        return Err(TooEarly { at, first }.into());
+    let moment = match at {
+        At::Line(_) => None,
+        At::Moment(ask) => Some(crate::replay::lists_of(log)?.find_named("--at", ask)?),
     };
-    heading(at, &last, found.refused.as_ref(), out)?;
-    match (last.reply.closed, &found.closing) {
-        (true, Some(closing)) => {
-            let (line, time) = (closing.line, closing.after.last);
-            writeln!(out, "The contactor is closed since line {line}, at {time}.")?;
-            writeln!(out, "{}", closed(closing))?;
-            running(&last, out)?;
+    let answer = match (moment, at) {
+        (Some(moment), _) => find(log, |turn| by_time(turn, moment), Some(moment))?,
+        (None, At::Line(line)) => find(log, |turn| (turn.line <= line).then_some(0), None)?,
+        (None, At::Moment(_)) => unreachable!("a moment is found or refused"),
+    };
+    let Some(last) = answer.found.last.clone() else {
+        let line = if let At::Line(line) = at { line } else { 0 };
+        return Err(TooEarly {
+            line,
+            first: first_accepted(log)?,
         }
-        _ => open(at, &last, found.opening.as_ref(), paint, out)?,
+        .into());
+    };
+    let told = Told {
+        answer: &answer,
+        last: last.turn(),
+        moment,
+        at,
+    };
+    told.print(paint, out)
+}
+
+/// How near a call is to a moment: its own time, if that is not after it.
+fn by_time(turn: &Turn, moment: Moment) -> Option<u64> {
+    let time = turn.call.time();
+    (turn.list == moment.list && time <= moment.time).then_some(time)
+}
+
+/// The call that ranks highest, of equal ones the last, and all that is known after it.
+fn find(
+    log: &Log,
+    rank: impl Fn(&Turn) -> Option<u64>,
+    moment: Option<Moment>,
+) -> Result<Answer, Box<dyn Error>> {
+    let mut case = Case::default();
+    let mut search = Search {
+        moment,
+        ..Search::default()
+    };
+    let mut lines = log.lines()?;
+    while let Some(taken) = lines.next().map_err(|unfit| unfit.of(log.name()))? {
+        let Taken::Entry(entry) = taken else { continue };
+        let entry = Rc::new(entry);
+        let seen = case.see(&entry)?;
+        match &seen.what {
+            What::Call(turn) => search.call(&entry, turn, rank(turn), &case),
+            _ => search.record(seen.moment, &case),
+        }
     }
-    Ok(())
+    Ok(search.answer(case))
+}
+
+/// What was found up to a line, and of it what counts for the answer.
+#[derive(Default)]
+struct Search {
+    moment: Option<Moment>,
+    found: Found,
+    best: Option<u64>,
+    kept: Found,
+    /// The answer's call was the last one, but for strays.
+    goes_on: bool,
+    passed: Passed,
+}
+
+impl Search {
+    fn call(&mut self, entry: &Rc<Entry>, turn: &Turn, rank: Option<u64>, case: &Case) {
+        self.found.see(entry, turn);
+        self.passed.see(turn, self.moment);
+        self.goes_on = self.goes_on && is_stray(turn, self.moment);
+        if rank.is_some() && rank >= self.best {
+            (self.best, self.goes_on) = (rank, true);
+            self.kept = self.found.clone();
+            self.kept.recorded(case, self.moment);
+        } else if self.goes_on {
+            self.kept.goes_on(&self.found);
+        }
+    }
+
+    fn record(&mut self, at: Moment, case: &Case) {
+        if self.best.is_some() && self.moment.is_none_or(|moment| at <= moment) {
+            self.kept.recorded(case, self.moment);
+        }
+    }
+
+    fn answer(self, case: Case) -> Answer {
+        let (kept, mut others) = (self.kept, self.passed.others);
+        let asked = kept.asked.as_ref().map_or(0, |asked| asked.entry.line);
+        let own = asked..=kept.until;
+        others.retain(|other| !own.contains(&other.0));
+        Answer {
+            found: kept,
+            others,
+            lists: case.lists,
+        }
+    }
+}
+
+/// A call whose time is refused, and that does not name a later moment.
+fn is_stray(turn: &Turn, moment: Option<Moment>) -> bool {
+    let is_later = moment.is_some_and(|moment| turn.call.time() > moment.time);
+    match turn.reply.refusal {
+        3 => true,
+        2 => !is_later,
+        _ => false,
+    }
+}
+
+/// So many other moments are told.
+const OTHERS: usize = 3;
+
+/// Where the clock passes a time; once, unless it goes back.
+#[derive(Default)]
+struct Passed {
+    others: Vec<(usize, u64)>,
+    before: Option<(usize, u64)>,
+}
+
+impl Passed {
+    fn see(&mut self, turn: &Turn, moment: Option<Moment>) {
+        let Some(moment) = moment.filter(|moment| moment.list == turn.list) else {
+            return;
+        };
+        let time = turn.call.time();
+        match self.before {
+            Some(before) if before.1 <= moment.time && moment.time < time => self.add(before),
+            _ => {}
+        }
+        self.before = Some((turn.line, time));
+    }
+
+    fn add(&mut self, call: (usize, u64)) {
+        if self.others.len() <= OTHERS {
+            self.others.push(call);
+        }
+    }
+}
+
+/// The answer as it is told.
+struct Told<'a> {
+    answer: &'a Answer,
+    last: Turn<'a>,
+    moment: Option<Moment>,
+    at: At,
+}
+
+impl Told<'_> {
+    fn print(&self, paint: Paint, out: &mut impl Write) -> Result<(), Box<dyn Error>> {
+        self.heading(out)?;
+        self.clock(out)?;
+        self.end(out)?;
+        self.state(out)?;
+        self.recorded(paint, out)?;
+        writeln!(out)?;
+        match (self.last.reply.closed, &self.answer.found.closing) {
+            (true, Some(closing)) => self.closed(&closing.turn(), paint, out)?,
+            _ => self.open(paint, out)?,
+        }
+        Ok(())
+    }
+
+    /// A time of the answer's list.
+    fn shown(&self, time: u64) -> String {
+        self.answer.lists.shown(Moment {
+            list: self.last.list,
+            time,
+        })
+    }
+
+    /// The time that is asked for; of a line that of its call.
+    fn now(&self) -> u64 {
+        let asked = self.answer.found.asked.as_ref();
+        let asked = asked.and_then(|asked| asked.turn().credible_time());
+        let now = self.moment.map(|moment| moment.time).or(asked);
+        now.unwrap_or(self.last.after.last)
+    }
+
+    /// The last accepted call, and what was refused after it.
+    fn heading(&self, out: &mut impl Write) -> io::Result<()> {
+        let last = &self.last;
+        let at = match (self.at, self.moment) {
+            (At::Line(line), _) => format!("line {line}"),
+            (_, Some(moment)) => self.answer.lists.shown(moment),
+            _ => String::new(),
+        };
+        let earlier = match self.moment {
+            Some(moment) if moment.time > last.after.last => {
+                format!(", {} ms before", grouped(moment.time - last.after.last))
+            }
+            _ => String::new(),
+        };
+        writeln!(
+            out,
+            "at {at}: the last accepted call is line {}, {} at {}{earlier}",
+            last.line,
+            call(last),
+            self.shown(last.after.last)
+        )?;
+        if let Some((first, count)) = &self.answer.found.refused {
+            let first = first.turn();
+            writeln!(
+                out,
+                "after it {} refused, which judge nothing; the first is line {}, {}: {}",
+                grouped(*count),
+                first.line,
+                call(&first),
+                words_of(&first, Kind::Refused)
+            )?;
+        }
+        Ok(())
+    }
+
+    /// A clock that was refused, or that passed the time more than once.
+    fn clock(&self, out: &mut impl Write) -> io::Result<()> {
+        let asked = self.answer.found.asked.as_ref().map(Kept::turn);
+        if let Some(asked) = asked.filter(|asked| asked.credible_time().is_none()) {
+            writeln!(
+                out,
+                "The call nearest to that time, line {} at {}, was refused for its own time: by the log's order it came after line {}, at {}.",
+                asked.line,
+                asked.call.time(),
+                self.last.line,
+                self.shown(self.last.after.last)
+            )?;
+        }
+        for (line, time) in self.answer.others.iter().take(OTHERS) {
+            writeln!(out, "The clock passed that time once more, after line {line}, at {time}: --line {line} tells of that.")?;
+        }
+        Ok(())
+    }
+
+    /// A moment past the end of its list.
+    fn end(&self, out: &mut impl Write) -> io::Result<()> {
+        let list = self.moment.and_then(|moment| {
+            let list = self.answer.lists.get(moment.list)?;
+            let is_past = moment.time > list.end && asked_is_credible(&self.answer.found);
+            is_past.then_some((moment.list, list))
+        });
+        let Some((number, list)) = list else {
+            return Ok(());
+        };
+        let (end, line) = (self.shown(list.end), list.last_line);
+        match self.answer.lists.get(number + 1) {
+            None => writeln!(
+                out,
+                "The log ends at {end}, in line {line}: what came after is not in it."
+            ),
+            Some(next) => writeln!(
+                out,
+                "List {number} ends at {end}, in line {line}; line {} begins the next one.",
+                next.line
+            ),
+        }
+    }
+
+    /// What was told.
+    fn state(&self, out: &mut impl Write) -> io::Result<()> {
+        let reply = &self.last.reply;
+        let measure = match reply.lines.each() {
+            [0, 0, 0] => String::new(),
+            each => format!(", last measure {} mA", lines(each)),
+        };
+        writeln!(
+            out,
+            "state {}, wave {}{}, contactor {}, closings {}{measure}",
+            state_word(reply.letter, reply.digit),
+            wave(reply.wave),
+            grant::shown(&self.last.after, ", "),
+            contact_word(reply.closed),
+            reply.closings,
+        )
+    }
+
+    /// What the post recorded.
+    fn recorded(&self, paint: Paint, out: &mut impl Write) -> io::Result<()> {
+        let found = &self.answer.found;
+        let mut words = Vec::new();
+        if let Some((closed, since)) = found.contact {
+            words.push(format!(
+                "contact {} since {}",
+                contact_word(closed),
+                self.shown(since)
+            ));
+        }
+        if let Some((since, text)) = &found.panel {
+            words.push(format!(
+                "panel \"{}\" since {}",
+                safe(text),
+                self.shown(*since)
+            ));
+        }
+        if !words.is_empty() {
+            writeln!(out, "recorded: {}", words.join(", "))?;
+        }
+        if let Some(failing) = found.failing {
+            let command = failing.fails.command();
+            let words = format!(
+                "The contact is {}: {} since {}, commanded {command} since {}.",
+                failing.fails.words(),
+                failing.fails.state(),
+                failing.from,
+                failing.command
+            );
+            writeln!(out, "{}", paint.colour(Colour::Red, &words))?;
+        }
+        Ok(())
+    }
+
+    fn closed(&self, closing: &Turn, paint: Paint, out: &mut impl Write) -> io::Result<()> {
+        let (line, time) = (closing.line, self.shown(closing.after.last));
+        writeln!(out, "The contactor is closed since line {line}, at {time}.")?;
+        writeln!(out, "{}", closed(closing))?;
+        running(&self.last, out)?;
+        let (from, to) = (self.last.after.last, self.now());
+        let silence = Silence {
+            from,
+            to,
+            over: true,
+        };
+        if to.saturating_sub(from) > SILENT {
+            let words = silent(&silence);
+            let words = format!("{}{}.", words[..1].to_uppercase(), &words[1..]);
+            writeln!(out, "{}", paint.colour(Colour::Red, &words))?;
+        }
+        Ok(())
+    }
+
+    fn open(&self, paint: Paint, out: &mut impl Write) -> io::Result<()> {
+        if let Some(opening) = &self.answer.found.opening {
+            let opening = opening.turn();
+            let (line, time) = (opening.line, self.shown(opening.after.last));
+            let words = words_of(&opening, Kind::Opened);
+            writeln!(out, "{words}; line {line}, at {time}\n")?;
+        }
+        for condition in conditions(&self.last) {
+            let holds = match condition.holds {
+                true => paint.colour(Colour::Green, "yes"),
+                false => paint.colour(Colour::Red, "no "),
+            };
+            let line = format!("  {:<24} {holds}  {}", condition.name, condition.detail);
+            writeln!(out, "{}", line.trim_end())?;
+        }
+        writeln!(
+            out,
+            "\nThe contactor waits for {}.",
+            waits_for(&self.last, self.now())
+        )
+    }
+}
+
+fn asked_is_credible(found: &Found) -> bool {
+    let asked = found.asked.as_ref();
+    asked.is_some_and(|asked| asked.turn().credible_time().is_some())
 }
 
 /// An over-run that runs with the contactor closed, and when fault 2 comes.
@@ -127,60 +522,6 @@ fn running(last: &Turn, out: &mut impl Write) -> io::Result<()> {
     )
 }
 
-/// The last accepted call, what was refused after it, and what was told.
-fn heading(
-    at: At,
-    last: &Turn,
-    refused: Option<&(Turn, u64)>,
-    out: &mut impl Write,
-) -> io::Result<()> {
-    writeln!(
-        out,
-        "at {at}: the last accepted call is line {}, {} at {}{}",
-        last.line,
-        call(last),
-        last.after.last,
-        earlier(at, last)
-    )?;
-    if let Some((first, count)) = refused {
-        writeln!(
-            out,
-            "after it {count} refused, which judge nothing; the first is line {}, {}: {}",
-            first.line,
-            call(first),
-            words_of(first, Kind::Refused)
-        )?;
-    }
-    let contactor = if last.reply.closed { "closed" } else { "open" };
-    writeln!(
-        out,
-        "state {}, wave {}{}, contactor {contactor}, closings {}{}\n",
-        state(last.reply.letter, last.reply.digit),
-        wave(last.reply.wave),
-        grant::shown(&last.after, ", "),
-        last.reply.closings,
-        last_measure(last)
-    )
-}
-
-/// The current on each line, where there is any.
-fn last_measure(last: &Turn) -> String {
-    match last.reply.lines.each() {
-        [0, 0, 0] => String::new(),
-        each => format!(", last measure {} mA", lines(each)),
-    }
-}
-
-/// How long before the time that was asked for.
-fn earlier(at: At, last: &Turn) -> String {
-    match at {
-        At::Time(at) if at > last.after.last => {
-            format!(", {} ms before", grouped(at - last.after.last))
-        }
-        _ => String::new(),
-    }
-}
-
 /// The words of its note of a kind.
 fn words_of(turn: &Turn, kind: Kind) -> String {
     let notes = notes(turn);
@@ -188,69 +529,7 @@ fn words_of(turn: &Turn, kind: Kind) -> String {
     note.map_or(String::new(), |note| note.words)
 }
 
-fn open(
-    at: At,
-    last: &Turn,
-    opening: Option<&Turn>,
-    paint: Paint,
-    out: &mut impl Write,
-) -> io::Result<()> {
-    if let Some(opening) = opening {
-        let (line, time) = (opening.line, opening.after.last);
-        let words = words_of(opening, Kind::Opened);
-        writeln!(out, "{words}; line {line}, at {time}\n")?;
-    }
-    for condition in conditions(last) {
-        let holds = match condition.holds {
-            true => paint.colour(Colour::Green, "yes"),
-            false => paint.colour(Colour::Red, "no "),
-        };
-        let line = format!("  {:<24} {holds}  {}", condition.name, condition.detail);
-        writeln!(out, "{}", line.trim_end())?;
-    }
-    let now = match at {
-        At::Time(time) => time,
-        At::Line(_) => last.after.last,
-    };
-    writeln!(out, "\nThe contactor waits for {}.", waits_for(last, now))
-}
-
-/// Replays up to there. Where a time fits several lists, the last of them counts.
-fn find(log: &Log, at: At) -> Result<Found<'_>, Box<dyn Error>> {
-    let mut post = Post::default();
-    let (mut found, mut kept) = (Found::default(), Found::default());
-    let mut past = false;
-    for (line, call) in log.calls() {
-        let turn = post.turn(line, call)?;
-        match turn.accepted() {
-            true => found.accepted(turn),
-            false => found.refused(turn),
-        }
-        past = is_past(at, &turn, past);
-        if !past {
-            kept = found;
-        }
-    }
-    Ok(kept)
-}
-
-/// Is a call past what was asked for, after one that was or was not?
-fn is_past(at: At, turn: &Turn, before: bool) -> bool {
-    match at {
-        At::Line(line) => turn.line > line,
-        At::Time(time) if turn.accepted() => turn.after.last > time,
-        // The clock of a call that is refused for its time says nothing.
-        At::Time(_) if matches!(turn.reply.refusal, 2 | 3) => before,
-        At::Time(time) => before || turn.call.time() > time,
-    }
-}
-
 fn first_accepted(log: &Log) -> Result<Option<(usize, u64)>, Box<dyn Error>> {
-    let mut post = Post::default();
-    for (line, call) in log.calls() {
-        if post.turn(line, call)?.accepted() {
-            return Ok(Some((line, call.time())));
-        }
-    }
-    Ok(None)
+    let lists = crate::replay::lists_of(log)?;
+    Ok(lists.get(1).map(|first| (first.line, first.begin)))
 }

@@ -33,7 +33,10 @@ pub const NUMERALS: [&str; 5] = ["i", "ii", "iii", "iv", "v"];
 pub const REFUSALS: [(usize, &str); 11] = [
     (1, "settings out of range, or nothing has begun"),
     (2, "the time is before the last accepted call"),
-    (3, "the time is above 1,000,000,000,000 ms"),
+    (
+        3,
+        "the time is above 1,000,000,000,000 ms: count from the post's start",
+    ),
     (4, "the window's length"),
     (5, "a reading out of range"),
     (6, "no supported reading"),
@@ -190,7 +193,7 @@ pub fn refusal(turn: &Turn) -> String {
             turn.call.time(),
             turn.before.last
         ),
-        (3, _) => "the time is above 1,000,000,000,000 ms".to_string(),
+        (3, _) => too_late(turn.call.time()),
         (4, Call::Sample(_, window)) => format!(
             "{} readings, where {SHORTEST} to {} are allowed",
             grouped(window.length() as u64),
@@ -213,6 +216,26 @@ pub fn refusal(turn: &Turn) -> String {
         ),
         (number, _) => format!("refusal {number}"),
     }
+}
+
+/// Times since 1970, of this century.
+const EPOCH: std::ops::Range<u64> = 946_684_800_000..4_102_444_800_000;
+
+/// Why a time is above the largest, and what to do.
+fn too_late(time: u64) -> String {
+    let units = [
+        (1, "milliseconds"),
+        (1_000, "microseconds"),
+        (1_000_000, "nanoseconds"),
+    ];
+    let since_1970 = units.iter().find(|unit| EPOCH.contains(&(time / unit.0)));
+    let advice = match since_1970 {
+        Some((_, unit)) => format!("it looks like {unit} since 1970: "),
+        None => String::new(),
+    };
+    format!(
+        "the time is above 1,000,000,000,000 ms; {advice}count milliseconds from the post's start"
+    )
 }
 
 /// The currents on the three lines, mA.

@@ -5,7 +5,7 @@ use std::io::Read;
 use std::os::unix::ffi::OsStrExt;
 use std::path::PathBuf;
 use std::process::{Output, Stdio};
-use tool::{run, text, tool, CHARGE};
+use tool::{run, run_file, text, tool, CHARGE};
 
 mod tool;
 
@@ -25,6 +25,13 @@ fn file(name: &str, content: &[u8]) -> PathBuf {
 /// A log from standard input is refused whole: status 2, nothing on standard output, and this on standard error.
 fn wrong_log(output: &Output, said: &str) {
     wrong(output, &format!("standard input: {said}"));
+}
+
+/// The same of a log in a file.
+fn wrong_file(log: &[u8], said: &str) {
+    let path = file("wrong.log", log);
+    let path = path.to_str().expect("a name");
+    wrong(&run(&["replay", path], b""), &format!("{path}: {said}"));
 }
 
 fn wrong(output: &Output, said: &str) {
@@ -57,10 +64,11 @@ fn other_line_ends_give_the_same_answer() {
         replay(marked.as_bytes()).stdout,
         replay(CHARGE.as_bytes()).stdout
     );
-    let no_last_end = CHARGE.trim_end();
+    let no_last_end = replay(CHARGE.trim_end().as_bytes());
+    assert_eq!(no_last_end.stdout, replay(CHARGE.as_bytes()).stdout);
     assert_eq!(
-        replay(no_last_end.as_bytes()).stdout,
-        replay(CHARGE.as_bytes()).stdout
+        text(&no_last_end.stderr),
+        "chuldariin: standard input: line 6, the last one, has no line end and may be torn; it is replayed as it stands (--skip-bad leaves it out)\n"
     );
 }
 
@@ -86,7 +94,7 @@ fn a_log_without_calls() {
 #[test]
 fn a_log_without_begin() {
     let said = "line 2: the first call is tick; expected begin TIME RATED PAUSE yes|no: a log is replayed from its begin, \
-                since what went before is not known";
+                since what went before is not known (--skip-bad starts at the first begin)";
     wrong_log(&replay(b"# the end of a log\ntick 10\ntick 20\n"), said);
     wrong_log(
         &replay(b"# the end of a log\ntick 10\nbegin 20 32000 0 no\n"),
@@ -97,15 +105,15 @@ fn a_log_without_begin() {
 #[test]
 fn wrong_lines() {
     let log = format!("{CHARGE}sample 50 6000\ntick 60\n");
-    wrong_log(
-        &replay(log.as_bytes()),
+    wrong_file(
+        log.as_bytes(),
         "line 7: LOW is missing; expected sample TIME HIGH LOW",
     );
     let log = format!("{CHARGE}limit 50 4294967296\n");
     let said =
         "line 7: MA '4294967296' is too large: the most is 4294967295; expected limit TIME MA";
-    wrong_log(&replay(log.as_bytes()), said);
-    let output = replay(&b"step 1\n".repeat(12));
+    wrong_file(log.as_bytes(), said);
+    let output = run_file(&["replay", "-"], &b"step 1\n".repeat(12));
     let said = text(&output.stderr);
     assert_eq!(output.status.code(), Some(2));
     assert_eq!(said.lines().count(), 11);
@@ -127,19 +135,19 @@ fn commands_that_are_wrong() {
     for (words, said) in [
         (
             &["step"][..],
-            "'step' is no command; expected replay, why, plot or demo",
+            "'step' is no command; expected replay, why, plot, summary or demo",
         ),
         (
             &["replay"],
-            "FILE is missing; expected replay FILE [--only changes]",
+            "FILE is missing; expected replay FILE.. [--only changes] [--format text|csv|json] [--from TIME] [--to TIME] [--follow] [--skip-bad]",
         ),
         (
-            &["replay", "a", "b"],
-            "'b' is not expected here; expected replay FILE [--only changes]",
+            &["why", "a", "b", "--at", "5"],
+            "'b' is not expected here; expected why FILE --at TIME, or --line LINE [--skip-bad]",
         ),
         (
             &["replay", "a", "--only"],
-            "--only wants a value; expected replay FILE [--only changes]",
+            "--only wants a value; expected replay FILE.. [--only changes] [--format text|csv|json] [--from TIME] [--to TIME] [--follow] [--skip-bad]",
         ),
         (
             &["replay", "a", "--only", "all"],
@@ -147,15 +155,15 @@ fn commands_that_are_wrong() {
         ),
         (
             &["why", "a"],
-            "--at is missing; expected why FILE --at TIME, or --line LINE",
+            "--at is missing; expected why FILE --at TIME, or --line LINE [--skip-bad]",
         ),
         (
             &["why", "a", "--at", "x"],
-            "--at 'x' is no number; expected digits alone, like 32000",
+            "--at 'x' is no time; expected digits alone, like 32000, 2:32000 in the second list, or a date like 2026-11-16T03:40:00Z",
         ),
         (
             &["plot", "a"],
-            "-o is missing; expected plot FILE -o OUT.svg [--from TIME] [--to TIME]",
+            "-o is missing; expected plot FILE -o OUT.svg [--from TIME] [--to TIME] [--skip-bad]",
         ),
         (
             &["demo", "a", "b"],
@@ -221,18 +229,30 @@ fn why_an_open_contactor_is_open() {
     let early = run(&["why", "-", "--at", "5"], b"begin 10 32000 0 no\n");
     wrong(
         &early,
-        "no call up to 5 is accepted; expected the first accepted call or later: line 1, at 10",
+        "--at 5: no list has begun by 5; expected 10 or later: line 1",
     );
 }
 
 #[test]
 fn a_refused_call_is_no_answer_to_why() {
     let log = "begin 0 32000 0 no\ntick 20\nlimit 25 80001\nlimit 26 80001\ntick 50\ntick 30\n";
-    let answer = text(&run(&["why", "-", "--at", "40"], log.as_bytes()).stdout);
+    let answer = text(&run(&["why", "-", "--at", "29"], log.as_bytes()).stdout);
     assert!(
         answer.starts_with(
-            "at 40: the last accepted call is line 2, tick at 20, 20 ms before\nafter it 2 refused"
+            "at 29: the last accepted call is line 2, tick at 20, 9 ms before\nafter it 2 refused"
         ),
+        "{answer}"
+    );
+    // By the log's order the call at 30 came after that at 50.
+    let answer = text(&run(&["why", "-", "--at", "40"], log.as_bytes()).stdout);
+    assert!(
+        answer
+            .starts_with("at 40: the last accepted call is line 5, tick at 50\nafter it 1 refused"),
+        "{answer}"
+    );
+    assert!(
+        answer.contains("line 6 at 30, was refused for its own time")
+            && answer.contains("passed that time once more, after line 4, at 26"),
         "{answer}"
     );
     let answer = text(&run(&["why", "-", "--at", "60"], log.as_bytes()).stdout);
@@ -315,7 +335,7 @@ fn a_begin_starts_afresh() {
     let shown = text(&replay(log.as_bytes()).stdout);
     assert!(
         shown.contains(
-            "<< OPENED: by the new begin; a new list begins: pause 10,000 ms (given as 0), with ventilation\n"
+            "<< OPENED: by the new begin; list 2 begins: pause 10,000 ms (given as 0), with ventilation\n"
         ),
         "{shown}"
     );
@@ -335,9 +355,9 @@ fn a_begin_starts_afresh() {
     }
     let why = text(&run(&["why", "-", "--at", "50"], log.as_bytes()).stdout);
     for line in [
-        "OPENED: by the new begin; line 7, at 50",
+        "OPENED: by the new begin; line 7, at 2:50",
         "  contactor open before    no",
-        "  not opened in this call  no",
+        "  opened before, if at all no   this call opened it",
         "  previous sample proven   no   there is none since begin",
         "The contactor waits for a limit of 6,000 mA or more (it is 0), a settled state (it is U) and two proven samples in a row in one band.",
     ] {
@@ -347,7 +367,7 @@ fn a_begin_starts_afresh() {
     let first = text(&run(&["why", "-", "--line", "5"], log.as_bytes()).stdout);
     assert!(
         first.starts_with(
-            "at line 5: the last accepted call is line 5, sample 6,000 / -12,000 at 30\n"
+            "at line 5: the last accepted call is line 5, sample 6,000 / -12,000 at 1:30\n"
         ),
         "{first}"
     );
@@ -470,7 +490,7 @@ fn more_logs_that_are_wrong() {
 
 #[test]
 fn a_picture_is_never_written_over_its_log() {
-    let log = file("kept.log", CHARGE.as_bytes());
+    let log = file("kept.svg", CHARGE.as_bytes());
     let name = log.to_str().expect("a name");
     let said = format!("-o {name} is the log itself; expected another name");
     wrong(&run(&["plot", name, "-o", name], b""), &said);
@@ -478,7 +498,7 @@ fn a_picture_is_never_written_over_its_log() {
     let nothing = run(&["plot", name, "-o", "-", "--from", "41"], b"");
     wrong(
         &nothing,
-        "no call is accepted from 41 on; expected an earlier --from",
+        "--from 41: the log ends at 40; expected an earlier --from",
     );
     let nothing = run(&["plot", "-", "-o", "-"], b"begin 0 1 0 no\n");
     wrong(

@@ -1,6 +1,6 @@
 //! What is told of a digital post: its grant, its stops and over-runs, and the refusals of a link call.
 
-use tool::{answer, line, run, text, CHARGE};
+use tool::{answer, line, run, text, without_silence, CHARGE};
 
 mod tool;
 
@@ -26,7 +26,7 @@ fn told(log: &str, words: &str) {
     let answer = replayed(log);
     let number = log.lines().count().to_string();
     let row = line(&answer, &format!("{number} "));
-    assert!(row.ends_with(words), "{words}\n{row}");
+    assert!(without_silence(row).ends_with(words), "{words}\n{row}");
 }
 
 /// The same after a charge has begun.

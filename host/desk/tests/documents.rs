@@ -23,8 +23,8 @@ fn blocks(document: &str) -> Vec<Vec<&str>> {
     blocks
 }
 
-/// What a command answers. The demo writes to a folder of this test.
-fn answer(command: &str) -> String {
+/// What a command answers, or complains of. The demo writes to a folder of this test.
+fn answer(command: &str, wrong: bool) -> String {
     let folder = PathBuf::from(env!("CARGO_TARGET_TMPDIR")).join("documents");
     let mut tool = Command::new(env!("CARGO_BIN_EXE_chuldariin-desk"));
     tool.args(command.split(' ')).current_dir(top());
@@ -32,7 +32,8 @@ fn answer(command: &str) -> String {
         tool.arg(folder);
     }
     let output = tool.output().expect("the tool ends");
-    assert!(output.status.success(), "{command}");
+    let status = if wrong { 2 } else { 0 };
+    assert_eq!(output.status.code(), Some(status), "{command}");
     String::from_utf8([output.stdout, output.stderr].concat()).expect("UTF-8")
 }
 
@@ -54,7 +55,10 @@ fn check(document: &str) -> usize {
         let Some(first) = block.first() else { continue };
         if let Some(command) = first.strip_prefix("$ ./chuldariin ") {
             commands += 1;
-            answered = answer(command);
+            let wrong = block
+                .get(1)
+                .is_some_and(|line| line.starts_with("chuldariin: "));
+            answered = answer(command, wrong);
             all_shown(&block[1..], &answered);
         } else if first.trim_start().starts_with(|c: char| c.is_ascii_digit()) {
             all_shown(&block, &answered);

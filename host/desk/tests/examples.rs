@@ -4,16 +4,17 @@
 //! `CHULDARIIN_WRITE=1 cargo test --release --manifest-path host/Cargo.toml -p chuldariin-desk --test examples`, and look at the difference.
 
 use chuldariin_desk::input::Log;
+use chuldariin_desk::lists::{Ask, Moment};
 use chuldariin_desk::paint::Paint;
 use chuldariin_desk::plot::{plot, WHOLE};
 use chuldariin_desk::progress::Progress;
-use chuldariin_desk::replay::{replay, Only};
+use chuldariin_desk::replay::{lists_of, replay, Only, Show};
 use chuldariin_desk::why::{why, At};
 use std::fs;
 use std::path::PathBuf;
 
 /// A log with more calls is long.
-const LONG: usize = 60;
+const LONG: u64 = 60;
 
 fn examples() -> PathBuf {
     PathBuf::from(env!("CARGO_MANIFEST_DIR")).join("../../examples")
@@ -45,12 +46,12 @@ fn read(text: &[u8]) -> Log {
 }
 
 fn shown(log: &Log) -> String {
-    let only = match log.calls().count() > LONG {
+    let only = match log.shape.calls > LONG {
         true => Only::Changes,
         false => Only::All,
     };
     let mut out = Vec::new();
-    replay(log, only, Paint::none(), Progress::none(), &mut out).expect("a replay");
+    replay(log, WHOLE, Show::text(only), Progress::none(), &mut out).expect("a replay");
     String::from_utf8(out).expect("UTF-8")
 }
 
@@ -100,10 +101,13 @@ fn each_replay_has_its_log() {
 #[test]
 fn each_time_of_a_log_has_its_why() {
     for (name, log) in logs() {
-        let last = log.calls().map(|(_, call)| call.time()).max().unwrap_or(0);
+        let lists = lists_of(&log).expect("a replay");
+        let list = lists.get(lists.count()).expect("a list");
         for part in 0..20 {
+            let time = list.begin + (list.end - list.begin) / 20 * part;
+            let ask = Ask::In(lists.now(time));
             let mut out = Vec::new();
-            why(&log, At::Time(last / 20 * part), Paint::none(), &mut out).expect("an answer");
+            why(&log, At::Moment(ask), Paint::none(), &mut out).expect("an answer");
             let answer = String::from_utf8(out).expect("UTF-8");
             let ends = ["The contactor waits for", "The contactor is closed since"];
             assert!(
@@ -119,15 +123,12 @@ fn each_picture_is_well_formed() {
     for (name, log) in logs() {
         let svg = plot(&log, "a < b & \"c\" \u{1b}", WHOLE).expect("a picture");
         well_formed(&svg, &name);
-        let (first, last) = (log.calls().next(), log.calls().last());
-        let part = (
-            first.map_or(0, |call| call.1.time()),
-            last.map_or(0, |call| call.1.time() / 2),
-        );
-        well_formed(
-            &plot(&log, &name, part).expect("a picture of a part"),
-            &name,
-        );
+        let lists = lists_of(&log).expect("a replay");
+        let list = lists.get(1).expect("a list");
+        let half = list.begin + (list.end - list.begin) / 2;
+        let ask = |time| Some(Ask::In(Moment { list: 1, time }));
+        let part = plot(&log, &name, (ask(list.begin), ask(half)));
+        well_formed(&part.expect("a picture of a part"), &name);
     }
 }
 

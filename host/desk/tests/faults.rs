@@ -23,9 +23,10 @@ fn over_run() -> String {
 /// The line of this time tells the fault and, at its end, this.
 fn tells(log: &str, time: u64, fault: &str, note: &str) {
     let answer = answer(&["replay", "-"], log);
-    let at = time.to_string();
+    // A later list has its number before the time.
+    let own = |moment: &str| moment.rsplit(':').next() == Some(&time.to_string());
     let mut rows = answer.lines();
-    let row = rows.rfind(|row| row.split_whitespace().nth(1) == Some(&at));
+    let row = rows.rfind(|row| row.split_whitespace().nth(1).is_some_and(own));
     let row = row.unwrap_or_else(|| panic!("{time}\n{answer}"));
     let column = answer.find("fault  ").expect("a column of faults");
     assert_eq!(row[column..column + 19].trim_end(), fault, "{row}");

@@ -2,7 +2,7 @@
 
 use chuldariin_desk::input::Log;
 use chuldariin_desk::plot::{plot, WHOLE};
-use drawn::{path, picture, places};
+use drawn::{path, picture, places, Asked};
 
 mod drawn;
 
@@ -82,10 +82,10 @@ fn an_over_run_and_its_restart() {
     ];
     for (part, told, restarts) in [
         (WHOLE, vec![starts, once, twice], 2),
-        ((65, 75), vec![once, twice], 1),
+        ((65, 75).part(), vec![once, twice], 1),
         // No call is in it.
-        ((75, 85), vec![twice], 0),
-        ((105, 110), vec![], 0),
+        ((75, 85).part(), vec![twice], 0),
+        ((105, 110).part(), vec![], 0),
     ] {
         let svg = picture(&text, part);
         assert_eq!(overrun_strip(&svg), (told, restarts), "{part:?}");
@@ -120,14 +120,10 @@ fn a_part_starts_with_what_held_before_it() {
 }
 
 #[test]
-fn a_clock_that_starts_anew_runs_on() {
+fn a_clock_that_starts_anew_stands_behind_the_list_before() {
     let text = "begin 500 32000 0 no\ntick 900\nbegin 100 16000 0 yes\nfault 300 4\nfault 300 5\ntick 400\n";
     let svg = picture(text, WHOLE);
-    assert!(
-        svg.contains(">2 begins, 6 calls, 500 to 1,200 ms:"),
-        "{svg}"
-    );
-    assert!(svg.contains("the clock of a later one starts anew"));
+    assert!(svg.contains(">2 begins, 6 calls, 1:500 to 2:400:"), "{svg}");
     assert!(svg.contains("<title>welded contact first, then over-temperature</title>"));
     // The fault is told 600 ms after the start, of 700.
     let x = 92.0 + 1072.0 * 600.0 / 700.0;
@@ -285,7 +281,7 @@ fn a_part_starts_where_it_was_asked_to() {
 }
 
 #[test]
-fn openings_are_listed_with_both_clocks() {
+fn openings_are_listed_with_their_lists() {
     // Closed at 1,040 and opened by the begin; closed again 40 ms after it, and opened at its own 500.
     let text = CHARGE.replace("limit 500 20000\ntick 1000\n", "");
     let late = text
@@ -300,10 +296,10 @@ fn openings_are_listed_with_both_clocks() {
         "{svg}"
     );
     for words in [
-        ">1040 ms</text>",
-        ">by the new begin (the post's clock: 0)</text>",
-        ">1540 ms</text>",
-        ">460 ms since the last sound sample (ii) (the post's clock: 500)</text>",
+        ">2:0</text>",
+        ">by the new begin</text>",
+        ">2:500</text>",
+        ">460 ms since the last sound sample (ii)</text>",
     ] {
         assert!(svg.contains(words), "{words}\n{svg}");
     }

@@ -8,7 +8,7 @@ mod tool;
 fn after_begin() {
     let answer = why("begin 0 32000 3000 no\n", "0");
     says(&answer, "contactor open before", "yes");
-    says(&answer, "not opened in this call", "yes");
+    says(&answer, "opened before, if at all", "yes");
     says(&answer, "a sample call", "no   begin 32,000 mA");
     says(
         &answer,
@@ -54,12 +54,12 @@ fn a_wave_that_is_not_driven() {
         (
             "limit 0 9000\nsample 10 3000 3000\nsample 20 3000 3000\n",
             "+12 V: state D, and the post has no ventilation",
-            "another state than D, without ventilation",
+            "a state other than D (D wants ventilation, and the post has none)",
         ),
         (
             "limit 0 9000\nsample 10 0 0\nsample 20 0 0\n",
             "+12 V: state E",
-            "another state than E",
+            "a state other than E (a short circuit, or no power)",
         ),
         (
             "limit 0 5999\nsample 10 9000 9000\nsample 20 9000 9000\n",
@@ -120,7 +120,11 @@ fn a_sample_that_is_not_proven() {
 fn a_previous_sample_that_is_forgotten() {
     let answer = why(&format!("{CHARGE}tick 121\n"), "121");
     says(&answer, "contactor open before", "no");
-    says(&answer, "not opened in this call", "no");
+    says(
+        &answer,
+        "opened before, if at all",
+        "no   this call opened it",
+    );
     says(
         &answer,
         "previous sample",
@@ -261,7 +265,7 @@ fn what_can_not_be_asked() {
     let none = run(&["why", "-", "--at", "5"], b"begin 0 1 0 no\n");
     assert_eq!(
         text(&none.stderr),
-        "chuldariin: no call of the log is accepted: nothing has begun\n"
+        "chuldariin: --at 5: no call of the log is accepted: nothing has begun\n"
     );
 }
 

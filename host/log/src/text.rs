@@ -1,5 +1,7 @@
 //! A log as text, one call a line, and back.
 //!
+//! Calls:
+//!
 //! ```text
 //! begin TIME RATED PAUSE yes|no [digital|plain]      without a mark: plain
 //! sample TIME HIGH LOW       256 readings, first half at HIGH, second half at LOW
@@ -13,10 +15,23 @@
 //! tick TIME
 //! ```
 //!
+//! What the post recorded, for no controller; `-` in a `told` stands for what it did not keep:
+//!
+//! ```text
+//! told STATE WAVE open|closed FAULT CLOSINGS [L1 L2 L3]      right after its call
+//! contact TIME open|closed
+//! panel TIME TEXT
+//! clock TIME DATE            the same moment by the wall's clock, RFC 3339
+//! travel MS                  the contact follows its command within MS
+//! ```
+//!
 //! Values are whole numbers in digits, apart by spaces or tabs. What follows a `#` is a comment. Empty lines
 //! are left out, and a line may end in CR LF.
 
 use crate::call::Call;
+use crate::reader::Reader;
+use crate::record::{Record, Told};
+use crate::wall::Wall;
 use crate::window::Window;
 use crate::wrong::{Wrong, WrongLines};
 use chuldariin_model::Begin;
@@ -24,7 +39,7 @@ use std::fmt;
 use std::str::{FromStr, SplitAsciiWhitespace};
 
 /// Each word that a line may start with, and its form.
-const FORMS: [(&str, &str); 9] = [
+const FORMS: [(&str, &str); 14] = [
     ("begin", "begin TIME RATED PAUSE yes|no [digital|plain]"),
     ("sample", "sample TIME HIGH LOW"),
     ("window", "window TIME r1 r2 .."),
@@ -34,15 +49,28 @@ const FORMS: [(&str, &str); 9] = [
     ("fault", "fault TIME KIND"),
     ("clear", "clear TIME"),
     ("tick", "tick TIME"),
+    (
+        "told",
+        "told STATE WAVE open|closed FAULT CLOSINGS [L1 L2 L3], and - for what was not kept",
+    ),
+    ("contact", "contact TIME open|closed"),
+    ("panel", "panel TIME TEXT"),
+    (
+        "clock",
+        "clock TIME DATE, with a DATE like 2026-11-16T03:40:00Z",
+    ),
+    ("travel", "travel MS, 100 or more"),
 ];
 
-const CALLS: &str = "begin, sample, window, limit, measure, link, fault, clear or tick";
+const CALLS: &str = "begin, sample, window, limit, measure, link, fault, clear or tick, or a record: told, contact, panel, clock or travel";
 const DIGITS: &str = "a whole number in digits alone, like 32000 or -12000";
 const TEXT: &str = "text in UTF-8";
 const ENDS: &str = "lines that end in LF or CR LF";
 
 /// So much of a word is shown, in characters.
 const SHOWN: usize = 24;
+/// A contact that is not said to be slower follows its command within this time, ms.
+pub const TRAVEL: u64 = 100;
 
 /// A line of a log that is not empty.
 #[derive(Clone, Debug, PartialEq, Eq)]
@@ -55,6 +83,8 @@ pub struct Entry {
 #[derive(Clone, Debug, PartialEq, Eq)]
 pub enum Line {
     Call(Call),
+    /// What the post recorded.
+    Record(Record),
     /// A comment that has its line for itself.
     Comment(String),
 }
@@ -109,7 +139,7 @@ pub fn print(calls: &[Call]) -> String {
 pub fn calls(text: &str) -> Result<Vec<Call>, WrongLines> {
     let call = |entry: Entry| match entry.what {
         Line::Call(call) => Some(call),
-        Line::Comment(_) => None,
+        _ => None,
     };
     Ok(parse(text.as_bytes())?
         .into_iter()
@@ -119,14 +149,12 @@ pub fn calls(text: &str) -> Result<Vec<Call>, WrongLines> {
 
 /// The lines of a text, or what is wrong with it.
 pub fn parse(text: &[u8]) -> Result<Vec<Entry>, WrongLines> {
-    // The mark that some editors put before UTF-8.
-    let text = text.strip_prefix(b"\xef\xbb\xbf").unwrap_or(text);
     let (mut entries, mut wrong) = (Vec::new(), WrongLines::default());
-    for (place, bytes) in text.split(|&byte| byte == b'\n').enumerate() {
-        let line = place + 1;
-        match parse_line(line, bytes.strip_suffix(b"\r").unwrap_or(bytes)) {
-            Ok(Some(what)) => entries.push(Entry { line, what }),
-            Ok(None) => {}
+    let mut reader = Reader::new(text);
+    // Memory can be read.
+    while let Ok(Some(read)) = reader.next() {
+        match read.entry {
+            Ok(entry) => entries.push(entry),
             Err(mistake) => wrong.add(mistake),
         }
     }
@@ -137,38 +165,39 @@ pub fn parse(text: &[u8]) -> Result<Vec<Entry>, WrongLines> {
     }
 }
 
-fn parse_line(line: usize, bytes: &[u8]) -> Result<Option<Line>, Wrong> {
-    let text = std::str::from_utf8(bytes).map_err(|error| Wrong {
+/// One line without its end; nothing if it is empty.
+pub(crate) fn parse_line(line: usize, bytes: &[u8]) -> Result<Option<Line>, Wrong> {
+    let wrong = |what: String, expected| Wrong {
         line,
-        what: format!(
-            "byte {} (0x{:02x}) is not UTF-8",
-            error.valid_up_to() + 1,
-            bytes[error.valid_up_to()]
-        ),
-        expected: TEXT,
+        what,
+        expected,
+    };
+    let text = std::str::from_utf8(bytes).map_err(|error| {
+        let (place, byte) = (error.valid_up_to() + 1, bytes[error.valid_up_to()]);
+        wrong(format!("byte {place} (0x{byte:02x}) is not UTF-8"), TEXT)
     })?;
     if text.contains('\r') {
-        let what = "a CR that no LF follows".to_string();
-        let expected = ENDS;
-        return Err(Wrong {
-            line,
-            what,
-            expected,
-        });
+        return Err(wrong("a CR that no LF follows".to_string(), ENDS));
     }
-    let (call, comment) = match text.split_once('#') {
-        Some((call, comment)) => (call, Some(comment)),
+    let (said, comment) = match text.split_once('#') {
+        Some((said, comment)) => (said, Some(comment)),
         None => (text, None),
     };
-    let mut words = call.split_ascii_whitespace();
+    let mut words = said.split_ascii_whitespace();
     match (words.next(), comment) {
-        (Some(word), _) => parse_call(line, word, words).map(|call| Some(Line::Call(call))),
+        (Some(word), _) => parse_words(line, word, words, said).map(Some),
         (None, Some(comment)) => Ok(Some(Line::Comment(comment.trim().to_string()))),
         (None, None) => Ok(None),
     }
 }
 
-fn parse_call(line: usize, word: &str, words: SplitAsciiWhitespace) -> Result<Call, Wrong> {
+/// A call, or a record.
+fn parse_words(
+    line: usize,
+    word: &str,
+    words: SplitAsciiWhitespace,
+    said: &str,
+) -> Result<Line, Wrong> {
     let Some((_, form)) = FORMS.iter().find(|form| form.0 == word) else {
         let what = format!("{} is no call", quoted(word));
         return Err(Wrong {
@@ -178,30 +207,16 @@ fn parse_call(line: usize, word: &str, words: SplitAsciiWhitespace) -> Result<Ca
         });
     };
     let mut values = Values { line, form, words };
-    let time = values.number("TIME")?;
-    let call = match word {
-        "begin" => Call::Begin(Begin {
-            time,
-            rated: values.number("RATED")?,
-            pause: values.number("PAUSE")?,
-            ventilation: values.yes_or_no()?,
-            digital: values.mark()?,
-        }),
-        "sample" => Call::Sample(
-            time,
-            Window::Halves(values.number("HIGH")?, values.number("LOW")?),
-        ),
-        "window" => Call::Sample(time, values.readings()?.into()),
-        "limit" => Call::Limit(time, values.number("MA")?),
-        "measure" => values.measure(time)?,
-        "link" => Call::Link(time, values.number("MA")?),
-        "fault" => Call::Fault(time, values.number("KIND")?),
-        "clear" => Call::Clear(time),
-        "tick" => Call::Tick(time),
-        _ => unreachable!("a form without its call"),
+    let what = match word {
+        "told" => Line::Record(Record::Told(values.told()?)),
+        "contact" => Line::Record(Record::Contact(values.number("TIME")?, values.contact()?)),
+        "panel" => return Ok(Line::Record(values.panel(said)?)),
+        "clock" => Line::Record(Record::Clock(values.number("TIME")?, values.date()?)),
+        "travel" => Line::Record(Record::Travel(values.travel()?)),
+        _ => Line::Call(values.call(word)?),
     };
     values.end()?;
-    Ok(call)
+    Ok(what)
 }
 
 /// The values of a call that are still to be read.
@@ -212,6 +227,31 @@ struct Values<'a> {
 }
 
 impl<'a> Values<'a> {
+    fn call(&mut self, word: &str) -> Result<Call, Wrong> {
+        let time = self.number("TIME")?;
+        Ok(match word {
+            "begin" => Call::Begin(Begin {
+                time,
+                rated: self.number("RATED")?,
+                pause: self.number("PAUSE")?,
+                ventilation: self.yes_or_no()?,
+                digital: self.mark()?,
+            }),
+            "sample" => Call::Sample(
+                time,
+                Window::Halves(self.number("HIGH")?, self.number("LOW")?),
+            ),
+            "window" => Call::Sample(time, self.readings()?.into()),
+            "limit" => Call::Limit(time, self.number("MA")?),
+            "measure" => self.measure(time)?,
+            "link" => Call::Link(time, self.number("MA")?),
+            "fault" => Call::Fault(time, self.number("KIND")?),
+            "clear" => Call::Clear(time),
+            "tick" => Call::Tick(time),
+            _ => unreachable!("a form without its call"),
+        })
+    }
+
     fn wrong(&self, what: String, expected: &'static str) -> Wrong {
         Wrong {
             line: self.line,
@@ -278,6 +318,76 @@ impl<'a> Values<'a> {
         Ok(Call::MeasureLines(time, lines))
     }
 
+    /// What the post says that it was told.
+    fn told(&mut self) -> Result<Told, Wrong> {
+        let mut told = Told {
+            state: self.kept("STATE", state)?,
+            wave: self.kept("WAVE", number)?,
+            closed: self.kept("open|closed", contact)?,
+            fault: self.kept("FAULT", number)?,
+            closings: self.kept("CLOSINGS", number)?,
+            lines: [None; 3],
+        };
+        if self.words.clone().next().is_some() {
+            let mut line = |name| self.kept(name, number);
+            told.lines = [line("L1")?, line("L2")?, line("L3")?];
+        }
+        Ok(told)
+    }
+
+    /// A value that may be missing.
+    fn kept<T>(
+        &mut self,
+        name: &str,
+        read: impl Fn(&str) -> Option<T>,
+    ) -> Result<Option<T>, Wrong> {
+        let word = self.next(name)?;
+        if word == "-" {
+            return Ok(None);
+        }
+        let wrong = || self.wrong(format!("{} is no {name}", quoted(word)), self.form);
+        read(word).map(Some).ok_or_else(wrong)
+    }
+
+    fn contact(&mut self) -> Result<bool, Wrong> {
+        let word = self.next("open|closed")?;
+        let wrong = || {
+            self.wrong(
+                format!("{} is neither open nor closed", quoted(word)),
+                self.form,
+            )
+        };
+        contact(word).ok_or_else(wrong)
+    }
+
+    /// The panel's words: the rest of the line, without the spaces around it.
+    fn panel(&mut self, said: &str) -> Result<Record, Wrong> {
+        let time = self.number("TIME")?;
+        self.next("TEXT")?;
+        let mut rest = said.trim_ascii();
+        for _ in 0..2 {
+            let end = rest.find(|c: char| c.is_ascii_whitespace());
+            rest = end.map_or("", |end| rest[end..].trim_ascii_start());
+        }
+        Ok(Record::Panel(time, rest.to_string()))
+    }
+
+    fn date(&mut self) -> Result<Wall, Wrong> {
+        let word = self.next("DATE")?;
+        Wall::parse(word).map_err(|what| {
+            let (what, _) = what.split_once("; expected").unwrap_or((&what, ""));
+            self.wrong(format!("DATE {what}"), self.form)
+        })
+    }
+
+    fn travel(&mut self) -> Result<u64, Wrong> {
+        let millis = self.number("MS")?;
+        let wrong = || self.wrong(format!("MS {millis} is below {TRAVEL}"), self.form);
+        Some(millis)
+            .filter(|millis| *millis >= TRAVEL)
+            .ok_or_else(wrong)
+    }
+
     fn readings(&mut self) -> Result<Vec<i32>, Wrong> {
         let mut readings = Vec::new();
         while let Some(word) = self.words.next() {
@@ -309,10 +419,32 @@ fn number<T: Whole>(word: &str) -> Option<T> {
     }
 }
 
+fn contact(word: &str) -> Option<bool> {
+    match word {
+        "open" => Some(false),
+        "closed" => Some(true),
+        _ => None,
+    }
+}
+
+/// Letter and digit as a reply has them.
+fn state(word: &str) -> Option<(u8, u8)> {
+    match *word.as_bytes() {
+        [letter @ (b'U' | b'E' | b'F')] => Some((letter, 0)),
+        [letter @ b'A'..=b'D', digit @ (b'1' | b'2')] => Some((letter, digit - b'0')),
+        _ => None,
+    }
+}
+
 /// A whole number of a type with two ends.
 trait Whole: FromStr + fmt::Display {
     const LEAST: Self;
     const MOST: Self;
+}
+
+impl Whole for u8 {
+    const LEAST: u8 = u8::MIN;
+    const MOST: u8 = u8::MAX;
 }
 
 impl Whole for u32 {

@@ -32,6 +32,17 @@ pub struct WrongLines {
 }
 
 impl WrongLines {
+    pub fn of(wrong: Wrong) -> WrongLines {
+        let first = vec![wrong];
+        WrongLines { first, more: 0 }
+    }
+
+    /// Those of a later part.
+    pub fn join(&mut self, later: WrongLines) {
+        later.first.into_iter().for_each(|wrong| self.add(wrong));
+        self.more += later.more;
+    }
+
     pub fn add(&mut self, wrong: Wrong) {
         match self.first.len() < KEPT {
             true => self.first.push(wrong),

@@ -1,7 +1,7 @@
 //! Logs as text and back, and what is said of a line that is no call.
 
 use chuldariin_log::text::{calls, parse, print};
-use chuldariin_log::{Call, Entry, Line, Window};
+use chuldariin_log::{Call, Entry, Line, Record, Window};
 
 const TEXT: &str = "\
 begin 0 32000 0 no
@@ -42,9 +42,9 @@ const WRONG: [(&str, &str); 36] = [
     ("tick 1\rtick 2",
         "a CR that no LF follows; expected lines that end in LF or CR LF",
     ),
-    ("Tick 1", "'Tick' is no call; expected begin, sample, window, limit, measure, link, fault, clear or tick"),
-    ("step 1", "'step' is no call; expected begin, sample, window, limit, measure, link, fault, clear or tick"),
-    ("10 tick", "'10' is no call; expected begin, sample, window, limit, measure, link, fault, clear or tick"),
+    ("Tick 1", "'Tick' is no call; expected begin, sample, window, limit, measure, link, fault, clear or tick, or a record: told, contact, panel, clock or travel"),
+    ("step 1", "'step' is no call; expected begin, sample, window, limit, measure, link, fault, clear or tick, or a record: told, contact, panel, clock or travel"),
+    ("10 tick", "'10' is no call; expected begin, sample, window, limit, measure, link, fault, clear or tick, or a record: told, contact, panel, clock or travel"),
     ("tick -1", "TIME '-1' is too small: the least is 0; expected tick TIME"),
     ("tick +1", "TIME '+1' is no number; expected a whole number in digits alone, like 32000 or -12000"),
     ("tick 1_000", "TIME '1_000' is no number; expected a whole number in digits alone, like 32000 or -12000"),
@@ -73,6 +73,50 @@ fn text_comes_back_as_it_was() {
     assert_eq!(list[9], Call::Measure(40, 200_001));
     assert_eq!(list[10], Call::MeasureLines(40, [0, 200_001, u32::MAX]));
     assert_eq!(list[11], Call::Link(45, 80_001));
+}
+
+/// What a post records comes back as it was, too; a date in the one form that it is written in.
+#[test]
+fn records_come_back_as_they_were() {
+    let text = "\
+tick 1
+told C2 533 closed 0 1
+tick 2
+told U - open - 4294967295 0 - 200000
+tick 3
+told - - - 255 -
+contact 18446744073709551615 open
+contact 0 closed
+panel 5 32 A  \"charging\"
+clock 6 2026-11-16T03:40:00.000Z
+clock 6 2026-11-16T04:40:00.250+01:00
+travel 100
+";
+    let entries = parse(text.as_bytes()).expect("records");
+    let line = |entry: &Entry| match &entry.what {
+        Line::Call(call) => call.to_string(),
+        Line::Record(record) => record.to_string(),
+        Line::Comment(comment) => comment.clone(),
+    };
+    let lines: Vec<String> = entries.iter().map(line).collect();
+    assert_eq!(lines.join("\n") + "\n", text);
+}
+
+/// A panel's words are the rest of the line, up to a comment.
+#[test]
+fn the_words_of_a_panel() {
+    for (said, words) in [
+        ("panel 5 on", "on"),
+        ("  panel\t5   on   and  off \t# lit", "on   and  off"),
+        ("panel 5 panel 5", "panel 5"),
+        ("panel 5 \u{e9}t\u{e9}", "\u{e9}t\u{e9}"),
+    ] {
+        let entries = parse(said.as_bytes()).expect(said);
+        assert_eq!(
+            entries[0].what,
+            Line::Record(Record::Panel(5, words.to_string()))
+        );
+    }
 }
 
 #[test]

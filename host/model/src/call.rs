@@ -1,5 +1,6 @@
 //! Begin, the seven other calls, and the reply.
 
+use crate::duty::duty_for;
 use crate::order::Order;
 use crate::state::{Event, State};
 use crate::steps::{run, Conditions};
@@ -160,10 +161,21 @@ impl State {
         time: u64,
         event: &Event,
     ) -> (State, Outcome) {
+        self.call_by(evaluate, duty_for, time, event)
+    }
+
+    /// The same, with another way to find the duty for a current as well.
+    pub fn call_by(
+        &self,
+        evaluate: impl FnOnce(&[i32]) -> Evaluated,
+        duty: fn(u32) -> Result<u32, u8>,
+        time: u64,
+        event: &Event,
+    ) -> (State, Outcome) {
         match check(self, evaluate, time, event) {
             Err(refusal) => (*self, Outcome::without_steps(Reply::of(self, refusal))),
             Ok(levels) => {
-                let run = run(self, time, event, levels);
+                let run = run(self, time, event, levels, duty);
                 let outcome = Outcome {
                     reply: Reply::of(&run.state, 0),
                     causes: run.causes,

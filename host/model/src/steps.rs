@@ -3,7 +3,7 @@
 //! The table has let the call pass, so the call's time is at or above every
 //! stored time, and every figure reckoned with is in range: nothing overflows.
 
-use crate::duty::{driven, duty_for, DIGITAL_DUTY, LEAST_CURRENT};
+use crate::duty::{driven, DIGITAL_DUTY, LEAST_CURRENT};
 use crate::order::Order;
 use crate::pilot::{same_band, verdict, Band, Verdict};
 use crate::state::{Event, State};
@@ -72,8 +72,14 @@ pub(crate) struct Run {
     pub closing: bool,
 }
 
-/// Takes an accepted call through all steps. A sample brings its levels.
-pub(crate) fn run(state: &State, time: u64, event: &Event, levels: Option<(i32, i32)>) -> Run {
+/// Takes an accepted call through all steps. A sample brings its levels; `duty` finds the duty for a current.
+pub(crate) fn run(
+    state: &State,
+    time: u64,
+    event: &Event,
+    levels: Option<(i32, i32)>,
+    duty: fn(u32) -> Result<u32, u8>,
+) -> Run {
     let mut run = Run {
         state: State {
             order: state.known_order(),
@@ -96,7 +102,7 @@ pub(crate) fn run(state: &State, time: u64, event: &Event, levels: Option<(i32, 
     run.step_1_event(event);
     run.reset_grant();
     run.step_2_latches();
-    run.step_3_wave();
+    run.step_3_wave(duty);
     run.step_4_opening();
     run.step_5_closing();
     run.keep();
@@ -187,9 +193,9 @@ impl Run {
     }
 
     /// Step 3: wave command, then the ends and starts that hang on it.
-    fn step_3_wave(&mut self) {
+    fn step_3_wave(&mut self, duty: fn(u32) -> Result<u32, u8>) {
         let before = self.state.wave;
-        self.state.wave = command(&self.state);
+        self.state.wave = command(&self.state, duty);
         if !self.state.wave_driven() {
             self.state.overrun = None;
         }
@@ -301,7 +307,7 @@ fn granted(state: &State) -> bool {
 }
 
 /// Wave command of step 3.
-fn command(state: &State) -> u32 {
+fn command(state: &State, duty: fn(u32) -> Result<u32, u8>) -> u32 {
     if state.any_fault() {
         return STEADY_LOW;
     }
@@ -313,7 +319,7 @@ fn command(state: &State) -> u32 {
     if !offers {
         return STEADY_HIGH;
     }
-    match duty_for(state.rated.min(state.limit)) {
+    match duty(state.rated.min(state.limit)) {
         Ok(_) if state.digital => digital_command(state),
         Ok(duty) => duty,
         Err(_) => STEADY_HIGH, // below 6,000 mA

@@ -6,7 +6,7 @@ use chuldariin_log::ask::ask;
 use chuldariin_log::meaning::meaning;
 use chuldariin_log::unlike::{unlike, unlike_kept};
 use chuldariin_log::{Call, Room};
-use chuldariin_model::{levels, Outcome, Reply, State};
+use chuldariin_model::{duty_for, levels, Outcome, Reply, State};
 
 /// One controller, as the archive keeps it and as the model does.
 #[derive(Clone, Copy, Debug)]
@@ -45,7 +45,7 @@ impl Pair {
     pub fn step<'a>(&mut self, call: &'a Call) -> Result<Seen<'a>, Box<Difference>> {
         let before = *self;
         let (reply, only_read) = archive(&mut self.lent, call);
-        let (state, outcome) = answer(&before.state, call, levels, &mut Room::default());
+        let (state, outcome) = answer(&before.state, call, levels, duty_for, &mut Room::default());
         self.state = state;
         let mut what = unlike(&reply, &outcome.reply);
         if !only_read {

@@ -45,17 +45,22 @@ fn lines(svg: &mut Svg, track: &Track, scale: &Scale, panel: &Panel) {
         svg.style(GRANT);
         svg.path(&line(&track.grant), "grant");
     }
+    // A dot is broader than a line, and is seen behind it.
+    dots(svg, track, scale, panel);
     svg.path(&line(&track.allowed), "announced");
     svg.path(&line(&track.limit), "limit");
-    let dots = |current: fn([u32; 3]) -> u32| {
-        reduce(track.measured.iter().map(|&(at, lines)| {
-            let (x, y) = place(&(at, current(lines)));
-            let joined = false;
-            Point { x, y, joined }
+}
+
+fn dots(svg: &mut Svg, track: &Track, scale: &Scale, panel: &Panel) {
+    let places = |current: fn([u32; 3]) -> u32| {
+        reduce(track.measured.iter().map(|&(at, lines)| Point {
+            x: scale.x(at),
+            y: panel.y(current(lines).into()),
+            joined: false,
         }))
     };
     let mut draw = |current, radius, class| {
-        for dot in dots(current) {
+        for dot in places(current) {
             svg.circle(dot.x, dot.y, radius, class);
         }
     };

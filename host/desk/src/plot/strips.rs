@@ -1,53 +1,61 @@
-//! Contactor, state, over-run, fault and refusals: what holds from when to when.
+//! Contactor, state, over-run and fault: what holds from when to when.
 
+use super::overlaid::overlaid;
+use super::refused;
 use super::scale::Scale;
 use super::svg::{Anchor, Svg};
 use super::track::{Run, Track};
+use super::unjudged;
 use super::{LEFT, RIGHT, STRIPS};
 use crate::latched::Latched;
 use crate::running::{fault_2_at, fault_2_due};
-use crate::table::state;
 use crate::turn::Overrun;
+use chuldariin_log::record::state_word as state;
 
-const HEIGHT: f64 = 18.0;
-const APART: f64 = 24.0;
+pub const HEIGHT: f64 = 18.0;
+pub const APART: f64 = 24.0;
 /// A letter of a label takes so much, px.
-const LETTER: f64 = 8.0;
+pub const LETTER: f64 = 8.0;
 /// Narrower parts are drawn so wide, px.
 const NARROW: f64 = 0.6;
 
 /// A value from one place to another, px.
-struct Span<T> {
-    from: f64,
-    to: f64,
-    value: T,
+pub struct Span<T> {
+    pub from: f64,
+    pub to: f64,
+    pub value: T,
 }
 
 /// How a value is shown.
-struct Part {
-    /// The longest first: a pointer shows that one.
-    labels: [String; 3],
-    colour: &'static str,
+pub struct Part {
+    /// What a pointer shows.
+    pub title: String,
+    /// The longest first.
+    pub labels: Vec<String>,
+    pub colour: &'static str,
 }
 
 impl Part {
+    /// The title is the longest label.
     fn new(long: &str, short: &str, colour: &'static str) -> Option<Part> {
-        let labels = [long, short, short].map(str::to_string);
-        Some(Part { labels, colour })
+        Some(Part {
+            title: long.to_string(),
+            labels: [long, short].map(str::to_string).into(),
+            colour,
+        })
     }
+}
 
-    /// The longest label that there is room for.
-    fn label(&self, width: f64) -> Option<&String> {
-        let fits = |label: &&String| width > LETTER * label.len() as f64 + 2.0;
-        self.labels.iter().find(fits)
-    }
+/// Does a label have room?
+pub fn fits(label: &str, width: f64) -> bool {
+    width > LETTER * label.chars().count() as f64 + 2.0
 }
 
 pub fn draw(svg: &mut Svg, track: &Track, scale: &Scale) {
     let closed = spans(&track.closed, track, scale);
-    strip(svg, 0, "contactor", &closed, |closed| match closed {
-        true => Part::new("closed", "", "#2da44e"),
-        false => Part::new("open", "", "#eaeef2"),
+    let unjudged = unjudged::parts(svg, track, scale);
+    overlaid(svg, 0, "contactor", &closed, &unjudged, |closed| {
+        command(*closed)
     });
     let states = spans(&track.state, track, scale);
     strip(svg, 1, "state", &states, |(letter, digit)| {
@@ -61,10 +69,15 @@ pub fn draw(svg: &mut Svg, track: &Track, scale: &Scale) {
     let latched = spans(&track.faults, track, scale);
     strip(svg, 3, "fault", &latched, fault_of);
     behind(svg, &latched);
-    let refused: Vec<Span<()>> = track.refused.iter().map(|at| place(scale.x(*at))).collect();
-    strip(svg, 4, "refused", &refused, |_| {
-        Part::new("refused", "", "#9a6700")
-    });
+    refused::draw(svg, track, scale, 4);
+}
+
+/// The contactor as it is commanded.
+fn command(closed: bool) -> Option<Part> {
+    match closed {
+        true => Part::new("closed", "", "#2da44e"),
+        false => Part::new("open", "", "#eaeef2"),
+    }
 }
 
 /// An over-run and when fault 2 comes; paler where a lowered duty has restarted it.
@@ -85,7 +98,8 @@ fn fault_of(latched: &Latched) -> Option<Part> {
     let first = latched.numbers().next()?;
     let numbers: Vec<String> = latched.numbers().map(|number| number.to_string()).collect();
     Some(Part {
-        labels: [latched.words(), latched.with_more(first), numbers.join(",")],
+        title: latched.words(),
+        labels: vec![latched.words(), latched.with_more(first), numbers.join(",")],
         colour: "#ff8182",
     })
 }
@@ -115,32 +129,35 @@ fn divide(svg: &mut Svg, row: usize, places: impl Iterator<Item = f64>) {
     }
 }
 
-/// A call, wide enough to be seen.
-fn place(x: f64) -> Span<()> {
-    Span {
-        from: x - 1.0,
-        to: x + 1.0,
-        value: (),
-    }
-}
-
-fn spans<T: Copy>(runs: &[Run<T>], track: &Track, scale: &Scale) -> Vec<Span<T>> {
+pub fn spans<T: Clone>(runs: &[Run<T>], track: &Track, scale: &Scale) -> Vec<Span<T>> {
     let ends = runs.iter().skip(1).map(|run| run.0).chain([track.end]);
     let span = |(run, end): (&Run<T>, u64)| Span {
         from: scale.x(run.0),
         to: scale.x(end),
-        value: run.1,
+        value: run.1.clone(),
     };
     runs.iter().zip(ends).map(span).collect()
 }
 
 /// The top of a strip.
-fn top(row: usize) -> f64 {
+pub fn top(row: usize) -> f64 {
     STRIPS + row as f64 * APART
 }
 
 /// One strip: each value is a part of it, or nothing to show.
-fn strip<T>(
+pub fn strip<T>(
+    svg: &mut Svg,
+    row: usize,
+    name: &str,
+    spans: &[Span<T>],
+    shown: impl Fn(&T) -> Option<Part>,
+) {
+    parts(svg, row, name, spans, shown);
+    svg.frame(LEFT, top(row), RIGHT - LEFT, HEIGHT);
+}
+
+/// The parts without the frame around them.
+pub fn parts<T>(
     svg: &mut Svg,
     row: usize,
     name: &str,
@@ -161,13 +178,21 @@ fn strip<T>(
             continue;
         }
         drawn = from + width;
-        svg.titled_fill(from, top, width, HEIGHT, part.colour, &part.labels[0]);
-        if let Some(label) = part.label(width) {
-            let x = from + width / 2.0;
-            svg.text(x, top + 13.0, 11.0, Anchor::Middle, "", label);
-        }
+        svg.titled_fill(from, top, width, HEIGHT, part.colour, &part.title);
+        label(svg, row, (from, drawn), &part.labels, "");
     }
-    svg.frame(LEFT, top, RIGHT - LEFT, HEIGHT);
+}
+
+/// The longest label that there is room for between two places; was there any?
+pub fn label(svg: &mut Svg, row: usize, ends: (f64, f64), labels: &[String], class: &str) -> bool {
+    let (from, to) = ends;
+    let fitting = labels.iter().find(|label| fits(label, to - from));
+    let Some(label) = fitting.filter(|label| !label.is_empty()) else {
+        return false;
+    };
+    let (x, y) = ((from + to) / 2.0, top(row) + 13.0);
+    svg.text(x, y, 11.0, Anchor::Middle, class, label);
+    true
 }
 
 /// Stronger under a driven wave.

@@ -63,6 +63,11 @@ impl Svg {
         self.push(format_args!("<style>{rule}</style>"));
     }
 
+    /// What others refer to by its name.
+    pub fn define(&mut self, definition: &str) {
+        self.push(format_args!("{definition}"));
+    }
+
     pub fn text(&mut self, x: f64, y: f64, size: f64, anchor: Anchor, class: &str, words: &str) {
         let anchor = match anchor {
             Anchor::Start => "start",

@@ -1,14 +1,20 @@
 //! What is to be drawn of each call.
 
+use super::clock::Clock;
+use super::records::Records;
+use super::window::{NothingThere, Window};
+use crate::case::{Case, Seen, What};
 use crate::causes::notes;
-use crate::input::Log;
+use crate::input::{Log, Taken};
 use crate::latched::Latched;
-use crate::turn::{Differs, Overrun, Post, Turn};
+use crate::lists::{Lists, Moment};
+use crate::turn::{Overrun, Turn, SILENT};
 use chuldariin::{raw, reading, Milliamps, Reading};
 use chuldariin_log::Call;
 use chuldariin_model::{State, SOUND_AGE};
+use std::error::Error;
 
-/// A value from a time on.
+/// A value from a place of the axis on.
 pub type Run<T> = (u64, T);
 
 /// What a mark stands for.
@@ -22,9 +28,10 @@ pub enum Sign {
 /// A begin, a closing or an opening.
 pub struct Mark {
     pub at: u64,
-    /// The call's own time.
-    pub time: u64,
+    pub moment: Moment,
     pub sign: Sign,
+    /// Of an opening: its number in the whole log.
+    pub number: u64,
     pub words: String,
 }
 
@@ -37,29 +44,26 @@ pub struct Levels {
     pub joined: bool,
 }
 
-/// The time of the axis: the log's own, that runs on where a later list starts at an earlier time.
-#[derive(Default)]
-struct Clock {
-    /// The present list's begin: its own time, and that of the axis.
-    begin: (u64, u64),
-    now: u64,
-    anew: bool,
+/// A time in which nothing was judged.
+#[derive(Clone, Copy)]
+pub struct Unjudged {
+    pub from: u64,
+    pub to: u64,
+    pub closed: bool,
+    /// An accepted call ends it; else it lasts to the end of the log.
+    pub over: bool,
 }
 
-impl Clock {
-    fn see(&mut self, turn: &Turn, first: bool) {
-        let time = turn.after.last;
-        if turn.begins() && first {
-            self.begin = (time, time);
-        } else if turn.begins() && time < turn.before.last {
-            self.anew = true;
-            self.begin = (time, self.now);
-        }
-        self.now = time - self.begin.0 + self.begin.1;
-    }
+/// The last accepted call.
+#[derive(Clone, Copy)]
+struct Accepted {
+    at: u64,
+    closed: bool,
+    /// Calls were refused since.
+    refused: bool,
 }
 
-/// A log, or a part of it, as it is drawn. Times are ms since its start.
+/// A log, or a part of it, as it is drawn. Times are places of the axis, ms.
 #[derive(Default)]
 pub struct Track {
     pub calls: u64,
@@ -67,13 +71,13 @@ pub struct Track {
     pub closings: u64,
     pub openings: u64,
     pub refused_calls: u64,
-    /// The axis' time at the start.
+    /// The ends of what is drawn.
     pub origin: u64,
-    /// The axis' time at the last call, and the end of what is drawn.
-    pub last: u64,
     pub end: u64,
-    /// A later list starts at an earlier time.
-    pub anew: bool,
+    pub first: Moment,
+    pub last: Moment,
+    pub lists: Lists,
+    pub clock: Clock,
     pub samples: Vec<Levels>,
     pub limit: Vec<Run<u32>>,
     pub rated: Vec<Run<u32>>,
@@ -87,12 +91,19 @@ pub struct Track {
     /// A measure has a current for each line.
     pub three_lines: bool,
     pub closed: Vec<Run<bool>>,
+    pub unjudged: Vec<Unjudged>,
     pub state: Vec<Run<(u8, u8)>>,
     pub overrun: Vec<Run<Option<Overrun>>>,
     pub faults: Vec<Run<Latched>>,
-    pub refused: Vec<u64>,
+    /// The number of each refusal.
+    pub refused: Vec<Run<u8>>,
     pub marks: Vec<Mark>,
-    clock: Clock,
+    pub records: Records,
+    /// Openings of the whole log so far.
+    opened: u64,
+    /// The latest call of the present list whose time was not refused itself.
+    now: Moment,
+    accepted: Option<Accepted>,
     last_sample: Option<u64>,
     /// What held before the first call that is drawn.
     held: Option<(State, raw::Reply, Option<Overrun>)>,
@@ -115,62 +126,111 @@ fn allowed(state: &State, wave: u32) -> u32 {
 }
 
 impl Track {
-    /// The calls of a log from one time of the axis to another.
-    pub fn of(log: &Log, part: (u64, u64)) -> Result<Track, Differs> {
-        let mut post = Post::default();
+    /// The calls and records of a log that lie in a part of it.
+    pub fn of(log: &Log, window: &Window) -> Result<Track, Box<dyn Error>> {
+        let mut case = Case::default();
         let mut track = Track::default();
-        for (line, call) in log.calls() {
-            track.see(&post.turn(line, call)?, part);
+        let mut lines = log.lines()?;
+        while let Some(taken) = lines.next().map_err(|unfit| unfit.of(log.name()))? {
+            if let Taken::Entry(entry) = &taken {
+                let seen = case.see(entry)?;
+                track.see(&seen, &case.lists, window);
+            }
         }
-        // In a part without calls what held before it goes on.
-        if track.closed.is_empty() && track.clock.now > part.0 {
-            track.start(part.0, part.0);
-        }
-        // What is drawn of the part ends with it, or with the log.
-        let end = track.clock.now.min(part.1).saturating_sub(track.origin);
-        track.last = track.origin + end;
-        track.end = end.max(1);
-        track.anew = track.clock.anew;
+        track.records.finish(&case, &track.clock, window);
+        track.lists = case.lists;
+        track.finish(window)?;
         Ok(track)
     }
 
-    fn see(&mut self, turn: &Turn, part: (u64, u64)) {
-        if turn.accepted() {
-            self.clock.see(turn, !turn.begun);
-        }
-        let now = self.clock.now;
-        if now < part.0 && turn.accepted() {
-            self.held = Some((turn.after, turn.reply, turn.overrun_after()));
-        }
+    fn see(&mut self, seen: &Seen, lists: &Lists, window: &Window) {
+        self.clock.grow(lists);
         // Before the first begin there is no time.
-        if !(part.0..=part.1).contains(&now) || !(turn.begun || turn.accepted()) {
+        if lists.count() == 0 {
             return;
         }
+        if let What::Call(turn) = &seen.what {
+            self.called(turn, window);
+        }
+        self.records.see(seen, self.now, &self.clock, window);
+    }
+
+    fn called(&mut self, turn: &Turn, window: &Window) {
+        let (list, time) = (turn.list, turn.credible_time());
+        let own = time.map(|time| Moment { list, time });
+        self.now = match own {
+            Some(begin) if turn.begins() => begin,
+            Some(own) => self.now.max(own),
+            None => self.now,
+        };
+        // A time that is refused itself says nothing of when the call was made.
+        let moment = own.unwrap_or(self.now);
+        let at = self.clock.at(moment);
+        self.judged(turn, at, window);
+        if turn.accepted() && window.is_before(moment) {
+            self.held = Some((turn.after, turn.reply, turn.overrun_after()));
+        }
+        let opens = turn.outcome.opened || turn.begun_while_closed();
+        self.opened += u64::from(opens);
+        if window.has(moment) {
+            self.draw(turn, moment, at, window);
+        }
+    }
+
+    /// Was anything judged since the last accepted call?
+    fn judged(&mut self, turn: &Turn, at: u64, window: &Window) {
+        if !turn.accepted() {
+            if let Some(accepted) = &mut self.accepted {
+                accepted.refused = true;
+            }
+            return;
+        }
+        let closed = turn.reply.closed;
+        let this = Accepted {
+            at,
+            closed,
+            refused: false,
+        };
+        let Some(before) = self.accepted.replace(this) else {
+            return;
+        };
+        let from = before.at;
+        let is_long = before.closed && at.saturating_sub(from) > SILENT;
+        if is_long && window.overlaps(from, at) {
+            self.unjudged.push(Unjudged {
+                from,
+                to: at,
+                closed: true,
+                over: true,
+            });
+        }
+    }
+
+    fn draw(&mut self, turn: &Turn, moment: Moment, at: u64, window: &Window) {
         if self.closed.is_empty() {
-            self.start(now, part.0);
+            self.start(window);
         }
         self.calls += 1;
         match turn.accepted() {
-            true => self.accepted(now - self.origin, turn),
+            true => self.accept(at, moment, turn),
             false => {
                 self.refused_calls += 1;
-                // Its own time says nothing of when it was made.
-                self.refused.push(now - self.origin);
+                self.refused.push((at, turn.reply.refusal));
             }
         }
     }
 
     /// What held before the part that is drawn holds at its start.
-    fn start(&mut self, now: u64, from: u64) {
-        self.origin = now;
-        if let Some((state, reply, overrun)) = self.held {
-            self.origin = from;
-            self.values(0, &state, &reply);
-            run(&mut self.overrun, 0, overrun);
-        }
+    fn start(&mut self, window: &Window) {
+        let Some((state, reply, overrun)) = self.held else {
+            return;
+        };
+        let origin = window.from.map_or(0, |from| from.at);
+        self.values(origin, &state, &reply);
+        run(&mut self.overrun, origin, overrun);
     }
 
-    fn accepted(&mut self, at: u64, turn: &Turn) {
+    fn accept(&mut self, at: u64, moment: Moment, turn: &Turn) {
         if turn.begins() {
             self.begins += 1;
             self.last_sample = None;
@@ -190,7 +250,7 @@ impl Track {
         }
         self.values(at, &turn.after, &turn.reply);
         run(&mut self.overrun, at, turn.overrun_after());
-        self.mark(at, turn);
+        self.mark(at, moment, turn);
     }
 
     fn values(&mut self, at: u64, state: &State, reply: &raw::Reply) {
@@ -204,7 +264,7 @@ impl Track {
         run(&mut self.faults, at, Latched::of(state));
     }
 
-    fn mark(&mut self, at: u64, turn: &Turn) {
+    fn mark(&mut self, at: u64, moment: Moment, turn: &Turn) {
         let opened = turn.outcome.opened || turn.begun_while_closed();
         let sign = match (opened, turn.outcome.closing, turn.begins()) {
             (true, _, _) => Sign::Opened,
@@ -217,9 +277,56 @@ impl Track {
         let first = notes(turn).into_iter().next();
         self.marks.push(Mark {
             at,
-            time: turn.after.last,
+            moment,
             sign,
+            number: self.opened,
             words: first.map_or(String::new(), |note| note.words),
         });
+    }
+
+    /// The log is over: where does what is drawn start and end?
+    fn finish(&mut self, window: &Window) -> Result<(), NothingThere> {
+        let (Some(begin), Some(accepted)) = (self.clock.start(), self.accepted) else {
+            return Err(NothingThere::NotAccepted);
+        };
+        let count = self.lists.count();
+        let calls_end = self.lists.get(count).map_or(0, |list| list.end);
+        let calls_end = self.clock.at(self.lists.now(calls_end));
+        let log_end = calls_end.max(self.records.end);
+        self.unjudged_at_end(accepted, log_end, window);
+        self.origin = window.from.map_or(begin, |from| from.at.max(begin));
+        self.first = window
+            .from
+            .map_or(self.clock.moment(begin), |from| from.moment);
+        if self.origin > log_end {
+            let end = self.clock.moment(log_end).shown(count);
+            return Err(NothingThere::After(self.first.shown(count), end));
+        }
+        let to = window.to.filter(|to| to.at < log_end);
+        self.end = to.map_or(log_end, |to| to.at).max(self.origin);
+        self.last = to.map_or(self.clock.moment(log_end), |to| to.moment);
+        // In a part without an accepted call what held before it goes on.
+        if self.closed.is_empty() {
+            self.start(window);
+        }
+        Ok(())
+    }
+
+    /// Refused calls judge nothing, and a closed contactor is not left alone for so long.
+    fn unjudged_at_end(&mut self, accepted: Accepted, end: u64, window: &Window) {
+        let Accepted {
+            at: from,
+            closed,
+            refused,
+        } = accepted;
+        let is_long = closed && end.saturating_sub(from) > SILENT;
+        if (refused || is_long) && from < end && window.overlaps(from, end) {
+            self.unjudged.push(Unjudged {
+                from,
+                to: end,
+                closed,
+                over: false,
+            });
+        }
     }
 }

@@ -1,0 +1,161 @@
+//! Rows of data for other programs: CSV (RFC 4180), or JSON, one object a line. The fields of a kind of row are always
+//! the same, in the same order; docs/REPLAY.md lists them.
+
+use std::fmt::Write as _;
+use std::io::{self, Write};
+
+/// How a replay or a summary is written.
+#[derive(Clone, Copy, Debug, PartialEq, Eq)]
+pub enum Format {
+    Text,
+    Csv,
+    Json,
+}
+
+impl Format {
+    pub fn parse(word: &str) -> Option<Format> {
+        match word {
+            "text" => Some(Format::Text),
+            "csv" => Some(Format::Csv),
+            "json" => Some(Format::Json),
+            _ => None,
+        }
+    }
+}
+
+/// The value of a field.
+pub enum Value<'a> {
+    None,
+    Number(i128),
+    Bool(bool),
+    Text(&'a str),
+    Owned(String),
+}
+
+impl Value<'_> {
+    pub fn number(number: impl Into<i128>) -> Value<'static> {
+        Value::Number(number.into())
+    }
+
+    pub fn maybe(number: Option<impl Into<i128>>) -> Value<'static> {
+        number.map_or(Value::None, Value::number)
+    }
+
+    /// A text, or nothing if it is empty.
+    pub fn text(text: &str) -> Value<'_> {
+        match text {
+            "" => Value::None,
+            _ => Value::Text(text),
+        }
+    }
+
+    pub fn owned(text: String) -> Value<'static> {
+        match text.is_empty() {
+            true => Value::None,
+            false => Value::Owned(text),
+        }
+    }
+}
+
+/// Writes rows of one kind.
+pub struct Rows {
+    format: Format,
+    row: String,
+    heading: Option<String>,
+}
+
+impl Rows {
+    pub fn new(format: Format, headed: bool) -> Rows {
+        Rows {
+            format,
+            row: String::new(),
+            heading: (headed && format == Format::Csv).then(String::new),
+        }
+    }
+
+    pub fn field(&mut self, name: &str, value: Value) {
+        match self.format {
+            Format::Json => {
+                self.row
+                    .push_str(if self.row.is_empty() { "{" } else { "," });
+                json_text(&mut self.row, name);
+                self.row.push(':');
+                json(&mut self.row, &value);
+            }
+            _ => {
+                // A mark in front, so that an empty first field is one, too.
+                self.row.push(',');
+                csv(&mut self.row, &value);
+                if let Some(heading) = &mut self.heading {
+                    heading.push(',');
+                    heading.push_str(name);
+                }
+            }
+        }
+    }
+
+    /// The row is whole.
+    pub fn end(&mut self, out: &mut impl Write) -> io::Result<()> {
+        if let Some(heading) = self.heading.take() {
+            write!(out, "{}\r\n", &heading[1..])?;
+        }
+        match self.format {
+            Format::Json => writeln!(out, "{}}}", self.row)?,
+            _ => write!(out, "{}\r\n", &self.row[1..])?,
+        }
+        self.row.clear();
+        Ok(())
+    }
+}
+
+// Writing to a string does not fail.
+fn json(row: &mut String, value: &Value) {
+    match value {
+        Value::None => row.push_str("null"),
+        Value::Number(number) => {
+            let _ = write!(row, "{number}");
+        }
+        Value::Bool(value) => row.push_str(if *value { "true" } else { "false" }),
+        Value::Text(text) => json_text(row, text),
+        Value::Owned(text) => json_text(row, text),
+    }
+}
+
+fn json_text(row: &mut String, text: &str) {
+    row.push('"');
+    for c in text.chars() {
+        match c {
+            '"' => row.push_str("\\\""),
+            '\\' => row.push_str("\\\\"),
+            '\t' => row.push_str("\\t"),
+            '\u{0}'..='\u{1f}' | '\u{7f}'..='\u{9f}' => {
+                let _ = write!(row, "\\u{:04x}", u32::from(c));
+            }
+            c => row.push(c),
+        }
+    }
+    row.push('"');
+}
+
+fn csv(row: &mut String, value: &Value) {
+    match value {
+        Value::None => {}
+        Value::Number(number) => {
+            let _ = write!(row, "{number}");
+        }
+        Value::Bool(value) => row.push_str(if *value { "true" } else { "false" }),
+        Value::Text(text) => csv_text(row, text),
+        Value::Owned(text) => csv_text(row, text),
+    }
+}
+
+fn csv_text(row: &mut String, text: &str) {
+    match text.contains([',', '"', '\r', '\n']) {
+        false => row.push_str(text),
+        true => {
+            row.push('"');
+            row.push_str(&text.replace('"', "\"\""));
+            row.push('"');
+        }
+    }
+}
