@@ -3,7 +3,7 @@
 use crate::contact::{Contact, Event, Failing};
 use crate::lists::{Lists, Moment};
 use crate::recorded::{Commanded, Difference};
-use crate::turn::{Differs, Post, Turn, LARGEST_TIME};
+use crate::turn::{Asked, Differs, Post, Turn, LARGEST_TIME};
 use chuldariin_log::{Entry, Line, Record, Told, Wall};
 
 /// A line of a log, and what came of it.
@@ -57,10 +57,22 @@ impl Default for Case {
 impl Case {
     /// The next line.
     pub fn see<'a>(&mut self, entry: &'a Entry) -> Result<Seen<'a>, Differs> {
+        self.see_asked(entry, None)
+    }
+
+    /// The same of a line whose call was put to the archive before.
+    pub fn see_asked<'a>(
+        &mut self,
+        entry: &'a Entry,
+        asked: Option<&Asked>,
+    ) -> Result<Seen<'a>, Differs> {
         let (what, contact) = match &entry.what {
             Line::Comment(text) => (What::Comment(text), None),
             Line::Call(call) => {
-                let turn = self.post.turn(entry.line, call)?;
+                let turn = match asked {
+                    Some(asked) => self.post.explain(entry.line, call, asked)?,
+                    None => self.post.turn(entry.line, call)?,
+                };
                 let contact = self.called(&turn);
                 (What::Call(Box::new(turn)), contact)
             }

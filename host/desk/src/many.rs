@@ -5,10 +5,12 @@ use crate::input::{shown, Bad, Damage, Lines, Taken, Unfit};
 use crate::lists::Lists;
 use crate::source::Source;
 use crate::summary::Summary;
+use crate::turn::{Archive, Asked};
+use chuldariin_log::{Entry, Line};
 use std::cmp::Reverse;
 use std::error::Error;
 use std::sync::atomic::{AtomicUsize, Ordering};
-use std::sync::mpsc::{sync_channel, Receiver};
+use std::sync::mpsc::sync_channel;
 use std::sync::Mutex;
 
 /// What a log comes to.
@@ -21,23 +23,28 @@ pub struct Whole {
 /// A log and what it comes to, or why it is not replayed.
 pub struct Replayed {
     pub name: String,
-    pub whole: Result<Whole, Box<dyn Error + Send + Sync>>,
+    pub whole: Result<Whole, Broken>,
 }
 
-/// So many lines are handed over at once.
-const BATCH: usize = 512;
+/// Why a log is not replayed.
+type Broken = Box<dyn Error + Send + Sync>;
+
+/// So many lines are handed over at once: a core that waits takes its time to wake.
+const BATCH: usize = 2_048;
+/// So often, before the one who reads has to wait; a window takes up to 4 kB.
+const QUEUE: usize = 4;
 
 /// Replays logs side by side.
 pub fn all(names: &[String], bad: Bad) -> Vec<Replayed> {
     let cores = std::thread::available_parallelism().map_or(1, usize::from);
     let next = AtomicUsize::new(0);
     let done = Mutex::new(Vec::new());
-    // Where there are more cores than logs, one of them reads ahead.
-    let reads_ahead = cores > names.len();
+    // Where there are more cores than logs, a log has two.
+    let asks_ahead = cores > names.len();
     let next_log = || names.get(next.fetch_add(1, Ordering::Relaxed));
     let work = || {
         while let Some(name) = next_log() {
-            let whole = whole(name, bad, reads_ahead);
+            let whole = whole(name, bad, asks_ahead);
             let name = shown(name).to_string();
             // A thread that broke off has left nothing half done here.
             let mut done = done.lock().unwrap_or_else(|broken| broken.into_inner());
@@ -73,33 +80,37 @@ fn trouble(log: &Replayed) -> [u64; 6] {
     ]
 }
 
-fn whole(name: &str, bad: Bad, reads_ahead: bool) -> Result<Whole, Box<dyn Error + Send + Sync>> {
+fn whole(name: &str, bad: Bad, asks_ahead: bool) -> Result<Whole, Broken> {
     let named = |unfit: Unfit| unfit.to_string();
     let input = Source::of(name).and_then(|source| source.open());
     let input = input.map_err(|error| named(error.into()))?;
     let mut lines = Lines::new(input, bad).map_err(named)?;
     let mut counted = Counted::default();
-    if !reads_ahead {
-        while let Some(taken) = lines.next().map_err(named)? {
-            counted.see(&taken)?;
-        }
-        return Ok(counted.end(lines.damage));
+    if asks_ahead {
+        return counted.ahead(lines);
     }
-    std::thread::scope(|scope| {
-        let (send, receive) = sync_channel::<Vec<Taken>>(8);
-        let reader = scope.spawn(move || read_ahead(lines, |batch| send.send(batch).is_ok()));
-        let counted = counted.see_all(receive);
-        let damage = reader.join().map_err(|_| "the log's reader broke off")?;
-        let counted = counted?;
-        Ok(counted.end(damage.map_err(named)?))
-    })
+    while let Some(taken) = lines.next().map_err(named)? {
+        counted.see(&taken, None)?;
+    }
+    Ok(counted.end(lines.damage))
 }
 
-/// Hands over lines, as long as somebody takes them.
-fn read_ahead(mut lines: Lines, send: impl Fn(Vec<Taken>) -> bool) -> Result<Damage, Unfit> {
+/// A line, and what the archive answered if it is a call.
+type Ahead = (Taken, Option<Asked>);
+
+/// Reads lines and puts their calls to the archive, as long as somebody takes them.
+fn ask_ahead(mut lines: Lines, send: impl Fn(Vec<Ahead>) -> bool) -> Result<Damage, Unfit> {
+    let mut archive = Archive::default();
     let mut batch = Vec::with_capacity(BATCH);
     while let Some(taken) = lines.next()? {
-        batch.push(taken);
+        let asked = match &taken {
+            Taken::Entry(Entry {
+                what: Line::Call(call),
+                ..
+            }) => Some(archive.ask(call)),
+            _ => None,
+        };
+        batch.push((taken, asked));
         if batch.len() == BATCH && !send(std::mem::replace(&mut batch, Vec::with_capacity(BATCH))) {
             break;
         }
@@ -115,22 +126,28 @@ struct Counted {
 }
 
 impl Counted {
-    fn see(&mut self, taken: &Taken) -> Result<(), Box<dyn Error + Send + Sync>> {
+    fn see(&mut self, taken: &Taken, asked: Option<&Asked>) -> Result<(), Broken> {
         if let Taken::Entry(entry) = taken {
-            let seen = self.case.see(entry)?;
+            let seen = self.case.see_asked(entry, asked)?;
             self.summary.see(&seen);
         }
         Ok(())
     }
 
-    fn see_all(
-        mut self,
-        batches: Receiver<Vec<Taken>>,
-    ) -> Result<Counted, Box<dyn Error + Send + Sync>> {
-        for taken in batches.iter().flatten() {
-            self.see(&taken)?;
-        }
-        Ok(self)
+    /// One core reads and asks the archive, and this one explains.
+    fn ahead(mut self, lines: Lines) -> Result<Whole, Broken> {
+        std::thread::scope(|scope| {
+            let (send, receive) = sync_channel::<Vec<Ahead>>(QUEUE);
+            let reader = scope.spawn(move || ask_ahead(lines, |batch| send.send(batch).is_ok()));
+            let mut batches = receive.iter().flatten();
+            let seen = batches.try_for_each(|(taken, asked)| self.see(&taken, asked.as_ref()));
+            // The reader ends when nobody takes its lines any more.
+            drop(batches);
+            drop(receive);
+            let damage = reader.join().map_err(|_| "the log's reader broke off")?;
+            seen?;
+            Ok(self.end(damage.map_err(|unfit| unfit.to_string())?))
+        })
     }
 
     fn end(mut self, damage: Damage) -> Whole {

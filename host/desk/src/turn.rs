@@ -173,9 +173,40 @@ impl fmt::Display for Differs {
 
 impl std::error::Error for Differs {}
 
+/// What the archive told, and its controller after the call.
+#[derive(Clone, Copy, Debug)]
+pub struct Asked {
+    reply: raw::Reply,
+    lent: raw::Controller,
+}
+
+/// The archive with the controller that it is lent. It needs no explanation, so it can be asked ahead of that.
+pub struct Archive {
+    lent: raw::Controller,
+    room: Room,
+}
+
+impl Default for Archive {
+    fn default() -> Archive {
+        Archive {
+            lent: raw::Controller::ZEROED,
+            room: Room::default(),
+        }
+    }
+}
+
+impl Archive {
+    /// Puts the next call to it.
+    pub fn ask(&mut self, call: &Call) -> Asked {
+        let reply = ask(&mut self.lent, call, &mut self.room);
+        let lent = self.lent;
+        Asked { reply, lent }
+    }
+}
+
 /// A post whose log is replayed.
 pub struct Post {
-    lent: raw::Controller,
+    archive: Archive,
     state: State,
     begun: bool,
     list: u32,
@@ -188,10 +219,9 @@ pub struct Post {
 
 impl Default for Post {
     fn default() -> Post {
-        let lent = raw::Controller::ZEROED;
         Post {
-            state: meaning(&lent),
-            lent,
+            state: meaning(&raw::Controller::ZEROED),
+            archive: Archive::default(),
             begun: false,
             list: 0,
             previous: Err(Forgotten::Never),
@@ -205,11 +235,22 @@ impl Default for Post {
 impl Post {
     /// Puts the next call to the archive, and explains what it did.
     pub fn turn<'a>(&mut self, line: usize, call: &'a Call) -> Result<Turn<'a>, Differs> {
+        let asked = self.archive.ask(call);
+        self.explain(line, call, &asked)
+    }
+
+    /// Explains what the archive did.
+    pub fn explain<'a>(
+        &mut self,
+        line: usize,
+        call: &'a Call,
+        asked: &Asked,
+    ) -> Result<Turn<'a>, Differs> {
         let before = self.state;
+        let reply = asked.reply;
         let levels = self.levels(call);
         let (state, outcome) = answer(&before, call, |_| levels, remembered, &mut self.room);
-        let reply = ask(&mut self.lent, call, &mut self.room);
-        self.state = meaning(&self.lent);
+        self.state = meaning(&asked.lent);
         let mut what = unlike(&reply, &outcome.reply);
         what.extend(unlike_kept(&self.state, &state));
         if !what.is_empty() {

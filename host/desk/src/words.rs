@@ -50,13 +50,17 @@ pub const REFUSALS: [(usize, &str); 11] = [
 /// A number with a comma before each three digits.
 pub fn grouped(number: impl Into<i128>) -> String {
     let number = number.into();
-    let digits = number.unsigned_abs().to_string();
-    let mut text = String::from(if number < 0 { "-" } else { "" });
-    for (place, digit) in digits.chars().enumerate() {
-        if place > 0 && (digits.len() - place).is_multiple_of(3) {
-            text.push(',');
-        }
-        text.push(digit);
+    let digits = match u64::try_from(number.unsigned_abs()) {
+        Ok(short) => short.to_string(),
+        Err(_) => number.unsigned_abs().to_string(),
+    };
+    let mut text = String::with_capacity(digits.len() * 4 / 3 + 2);
+    text.push_str(if number < 0 { "-" } else { "" });
+    let (first, rest) = digits.split_at((digits.len() - 1) % 3 + 1);
+    text.push_str(first);
+    for three in rest.as_bytes().chunks(3) {
+        text.push(',');
+        text.extend(three.iter().map(|digit| char::from(*digit)));
     }
     text
 }

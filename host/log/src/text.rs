@@ -411,10 +411,26 @@ impl<'a> Values<'a> {
     }
 }
 
+/// So many digits fit a signed number of 64 bits, whatever they are.
+const FEW: usize = 18;
+
 /// A number that is written in digits alone, but for the sign of one below 0.
 fn number<T: Whole>(word: &str) -> Option<T> {
-    match word.starts_with('+') {
-        true => None,
+    let (below, digits) = match word.strip_prefix('-') {
+        Some(digits) => (true, digits),
+        None => (false, word),
+    };
+    let few = (1..=FEW).contains(&digits.len()) && digits.bytes().all(|byte| byte.is_ascii_digit());
+    // Most numbers are short, and a log has millions of them.
+    match few {
+        true => {
+            let add = |number: i64, byte: u8| number * 10 + i64::from(byte - b'0');
+            let number = digits.bytes().fold(0, add);
+            let is_minus_0 = below && number == 0 && T::IS_UNSIGNED;
+            let number = if below { -number } else { number };
+            T::try_from(number).ok().filter(|_| !is_minus_0)
+        }
+        false if word.starts_with('+') => None,
         false => word.parse().ok(),
     }
 }
@@ -437,9 +453,10 @@ fn state(word: &str) -> Option<(u8, u8)> {
 }
 
 /// A whole number of a type with two ends.
-trait Whole: FromStr + fmt::Display {
+trait Whole: FromStr + TryFrom<i64> + fmt::Display {
     const LEAST: Self;
     const MOST: Self;
+    const IS_UNSIGNED: bool = true;
 }
 
 impl Whole for u8 {
@@ -460,6 +477,7 @@ impl Whole for u64 {
 impl Whole for i32 {
     const LEAST: i32 = i32::MIN;
     const MOST: i32 = i32::MAX;
+    const IS_UNSIGNED: bool = false;
 }
 
 /// A word between quotes, cut if it is long, with nothing in it that a terminal would obey.

@@ -22,7 +22,10 @@ tick 1000000000001
 ";
 
 /// Lines that are no calls, and what is said of each.
-const WRONG: [(&str, &str); 36] = [
+const WRONG: [(&str, &str); 39] = [
+    ("tick -0", "TIME '-0' is too small: the least is 0; expected tick TIME"),
+    ("tick --1", "TIME '--1' is no number; expected a whole number in digits alone, like 32000 or -12000"),
+    ("tick 1\u{0}", "TIME '1\\0' is no number; expected a whole number in digits alone, like 32000 or -12000"),
     ("tick", "TIME is missing; expected tick TIME"),
     ("tick # 1", "TIME is missing; expected tick TIME"),
     ("limit 1", "MA is missing; expected limit TIME MA"),
