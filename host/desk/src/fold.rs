@@ -1,6 +1,6 @@
 //! Lines folded or cut to the width of a terminal; whole where there is none.
 
-use std::io::IsTerminal;
+use std::io::{self, IsTerminal, Write};
 
 /// Narrower than this nothing is folded.
 const LEAST: usize = 40;
@@ -95,6 +95,75 @@ pub fn fold(text: &str, width: usize) -> Vec<&str> {
     lines
 }
 
+/// The letters that a terminal shows: colours take no room.
+pub fn visible(text: &str) -> usize {
+    let mut shown = 0;
+    let mut coloured = false;
+    for c in text.chars() {
+        match (coloured, c) {
+            (false, '\x1b') => coloured = true,
+            (true, 'm') => coloured = false,
+            (false, _) => shown += 1,
+            (true, _) => {}
+        }
+    }
+    shown
+}
+
+/// Writes lines, folded to a width; what goes on below its line stands further in.
+pub struct Folded<W> {
+    out: W,
+    width: Option<usize>,
+    line: Vec<u8>,
+}
+
+impl<W: Write> Folded<W> {
+    pub fn new(out: W, width: Option<usize>) -> Folded<W> {
+        Folded {
+            out,
+            width,
+            line: Vec::new(),
+        }
+    }
+
+    /// The line that is there now.
+    fn end(&mut self) -> io::Result<()> {
+        let line = String::from_utf8_lossy(&self.line).into_owned();
+        self.line.clear();
+        let Some(width) = self.width.filter(|width| visible(&line) > *width) else {
+            return self.out.write_all(line.as_bytes());
+        };
+        let indent = line.len() - line.trim_start_matches(' ').len() + 4;
+        let (mut row, mut first) = (String::new(), true);
+        for word in line.split(' ') {
+            if !first && visible(&row) + 1 + visible(word.trim_end()) > width {
+                writeln!(self.out, "{}", row.trim_end())?;
+                row = " ".repeat(indent - 1);
+            }
+            row.push_str(if first { "" } else { " " });
+            row.push_str(word);
+            first = false;
+        }
+        self.out.write_all(row.as_bytes())
+    }
+}
+
+impl<W: Write> Write for Folded<W> {
+    fn write(&mut self, bytes: &[u8]) -> io::Result<usize> {
+        let end = bytes.iter().position(|byte| *byte == b'\n');
+        let taken = end.map_or(bytes.len(), |end| end + 1);
+        self.line.extend_from_slice(&bytes[..taken]);
+        if end.is_some() {
+            self.end()?;
+        }
+        Ok(taken)
+    }
+
+    fn flush(&mut self) -> io::Result<()> {
+        self.out.flush()
+    }
+}
+
 /// The last byte of the letter that starts there.
 fn end_of_letter(text: &str, start: usize) -> usize {
     let length = text[start..].chars().next().map_or(1, char::len_utf8);
@@ -103,7 +172,32 @@ fn end_of_letter(text: &str, start: usize) -> usize {
 
 #[cfg(test)]
 mod tests {
-    use super::{cut, fold, Place};
+    use super::{cut, fold, Folded, Place};
+    use std::io::Write;
+
+    #[test]
+    fn lines_are_folded_as_they_are_written() {
+        let folded = |text: &str, width| {
+            let mut out = Vec::new();
+            let mut lines = Folded::new(&mut out, width);
+            write!(lines, "{text}").expect("memory");
+            String::from_utf8(out).expect("UTF-8")
+        };
+        let text = "  silence   1 time without an accepted call\n\nend\n";
+        assert_eq!(folded(text, None), text);
+        assert_eq!(folded(text, Some(80)), text);
+        let narrow = "  silence   1 time\n      without an\n      accepted call\n\nend\n";
+        assert_eq!(folded(text, Some(20)), narrow);
+        // Colours take no room, and a word that is too long stays whole.
+        assert_eq!(
+            folded("\x1b[31mred words\x1b[0m\n", Some(9)),
+            "\x1b[31mred words\x1b[0m\n"
+        );
+        assert_eq!(
+            folded("a longer-word b\n", Some(5)),
+            "a\n    longer-word\n    b\n"
+        );
+    }
 
     #[test]
     fn lines_fit_and_lose_no_word() {

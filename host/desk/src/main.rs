@@ -1,7 +1,7 @@
 //! The command `chuldariin`.
 
 use chuldariin_desk::data::Format;
-use chuldariin_desk::fold::width_of_stdout;
+use chuldariin_desk::fold::{width_of_stdout, Folded};
 use chuldariin_desk::input::{read, shown, Bad, Damage, Unfit};
 use chuldariin_desk::lists::NoMoment;
 use chuldariin_desk::options::{command, Command, Replay, USAGE};
@@ -76,7 +76,8 @@ fn run(command: Command) -> Result<u8, Box<dyn Error>> {
         Command::Why { file, at, bad } => {
             let log = read(&file, bad)?;
             damaged(log.name(), &log.damage);
-            why(&log, at, paint, &mut out)?;
+            let mut folded = Folded::new(&mut out, width_of_stdout());
+            why(&log, at, paint, &mut folded)?;
         }
         Command::Plot {
             file,
@@ -86,7 +87,8 @@ fn run(command: Command) -> Result<u8, Box<dyn Error>> {
         } => picture(&file, &name, part, bad, &mut out)?,
         Command::Summary { files, format, bad } => {
             let logs = many::all(&files, bad);
-            overview::print(&logs, format, &mut out)?;
+            let width = width_of_stdout().filter(|_| format == Format::Text);
+            overview::print(&logs, format, &mut Folded::new(&mut out, width))?;
             let all = logs.iter().all(|log| log.whole.is_ok());
             status = if all { 0 } else { WRONG };
         }

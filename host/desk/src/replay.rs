@@ -4,6 +4,7 @@ use crate::case::{Case, Seen, What};
 use crate::causes::{note, notes, Kind, Note};
 use crate::contact::Event;
 use crate::data::{Format, Rows};
+use crate::fold::Folded;
 use crate::input::{Bad, Damage, Lines, Log, Shape, Taken, Unfit};
 use crate::lists::{Ask, Lists, Moment};
 use crate::paint::Paint;
@@ -167,6 +168,7 @@ enum Printer {
 struct Replay<'a> {
     name: &'a str,
     only: Only,
+    width: Option<usize>,
     ends: Ends,
     printer: Printer,
     case: Case,
@@ -181,6 +183,7 @@ impl<'a> Replay<'a> {
         Replay {
             name,
             only: show.only,
+            width: show.width,
             ends,
             printer: match show.format {
                 Format::Text => Printer::Table(Box::new(Table::new(shape, show.paint, show.width))),
@@ -269,7 +272,7 @@ impl<'a> Replay<'a> {
                 damage,
                 part: self.ends.is_part(),
             };
-            totals.print(out)?;
+            totals.print(&mut Folded::new(out, self.width))?;
         }
         Ok(())
     }

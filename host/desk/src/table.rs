@@ -2,7 +2,7 @@
 
 use crate::case::Seen;
 use crate::causes::{Kind, Note};
-use crate::fold::{cut, Place};
+use crate::fold::{cut, visible, Place};
 use crate::input::Shape;
 use crate::paint::{Colour, Paint};
 use crate::turn::Turn;
@@ -72,9 +72,9 @@ pub struct Table {
     row: String,
     /// The last reply that was written, and its columns.
     reply: Option<(raw::Reply, String)>,
-    /// The columns of the last reply, without colours and with them.
-    plain: String,
+    /// The columns of the last reply: in their order, with colours; and on a narrow terminal, before and after the sample.
     painted: String,
+    narrow: [String; 2],
 }
 
 impl Table {
@@ -88,8 +88,8 @@ impl Table {
             headed: false,
             row: String::new(),
             reply: None,
-            plain: String::new(),
             painted: String::new(),
+            narrow: [String::new(), String::new()],
         }
     }
 
@@ -116,9 +116,20 @@ impl Table {
             columns.three_lines,
             format!("  {:<LINES$}", "lines 1, 2, 3 (mA)"),
         );
+        let sample = format!("{:<SAMPLE$}", "sample");
+        let names = ["state", "wave", "contactor", "fault", "closings"];
+        let reply = match self.is_narrow() {
+            false => format!("{sample}  {}", in_order(names)),
+            true => {
+                let [before, after] = narrow(names);
+                format!("{before}  {sample}  {after}")
+            }
+        };
         let text = format!(
-            "{:>line$}  {:>time$}  {wall}{:<CALL$}  {:<SAMPLE$}  {:<5}  {:<16}  {:<9}  {:<19}  {:>8}{grant}{lines}  what happened",
-            "line", "ms", "call", "sample", "state", "wave", "contactor", "fault", "closings",
+            "{:>line$}  {:>time$}  {wall}{:<CALL$}  {reply}{grant}{lines}  what happened",
+            "line",
+            "ms",
+            "call",
             line = columns.line,
             time = columns.time,
         );
@@ -147,13 +158,18 @@ impl Table {
     ) -> io::Result<()> {
         self.heading(out)?;
         self.front(seen, &call(turn));
+        self.reply_columns(turn);
+        let [before, after] = match self.is_narrow() {
+            true => [self.narrow[0].as_str(), self.narrow[1].as_str()],
+            false => ["", self.painted.as_str()],
+        };
+        if !before.is_empty() {
+            self.row.push_str(before);
+            self.row.push_str("  ");
+        }
         pad(&mut self.row, &verdict(turn), SAMPLE);
         self.row.push_str("  ");
-        self.reply_columns(turn);
-        // Colours and a cut do not go together.
-        let is_cut = self.width.is_some_and(|width| self.columns.width() > width);
-        let reply = if is_cut { &self.plain } else { &self.painted };
-        self.row.push_str(reply);
+        self.row.push_str(after);
         if self.columns.digital {
             let grant = shown_grant(turn);
             self.row.push_str("  ");
@@ -164,6 +180,11 @@ impl Table {
             pad(&mut self.row, &shown_lines(turn), LINES);
         }
         self.end(out, notes)
+    }
+
+    /// Not all columns have room, so the contactor comes first, and colours, which do not go with a cut, are left out.
+    fn is_narrow(&self) -> bool {
+        self.width.is_some_and(|width| self.columns.width() > width)
     }
 
     /// A line that is no call: what the post recorded, or what was left out.
@@ -226,15 +247,26 @@ impl Table {
         {
             return;
         }
-        let paint = self.paint;
-        (self.plain, self.painted) = match turn.tells_nothing() {
-            true => (nothing(), nothing()),
-            false => (
-                told(&reply, &fault, Paint::none()),
-                told(&reply, &fault, paint),
-            ),
+        let (state, wave) = (state_word(reply.letter, reply.digit), wave(reply.wave));
+        let closings = reply.closings.to_string();
+        let cells = match turn.tells_nothing() {
+            true => ["-"; 5],
+            false => [&state, &wave, contact_word(reply.closed), &fault, &closings],
         };
+        self.narrow = narrow(cells);
+        self.painted = self.painted(cells, reply.closed);
         self.reply = Some((reply, fault));
+    }
+
+    fn painted(&self, cells: [&str; 5], closed: bool) -> String {
+        let [state, wave, contactor, fault, closings] = cells;
+        let contactor = format!("{contactor:<9}");
+        let contactor = match closed {
+            true => self.paint.colour(Colour::Green, &contactor),
+            false => contactor,
+        };
+        let fault = self.paint.colour(Colour::Red, &format!("{fault:<19}"));
+        format!("{state:<5}  {wave:<16}  {contactor}  {fault}  {closings:>8}")
     }
 
     /// What happened, behind the columns or below them.
@@ -312,26 +344,17 @@ fn marked(note: &Note) -> String {
     }
 }
 
-/// What a reply tells.
-fn told(reply: &raw::Reply, fault: &str, paint: Paint) -> String {
-    let contactor = format!("{:<9}", contact_word(reply.closed));
-    let contactor = match reply.closed {
-        true => paint.colour(Colour::Green, &contactor),
-        false => contactor,
-    };
-    format!(
-        "{:<5}  {:<16}  {contactor}  {}  {:>8}",
-        state_word(reply.letter, reply.digit),
-        wave(reply.wave),
-        paint.colour(Colour::Red, &format!("{fault:<19}")),
-        reply.closings,
-    )
+/// What a reply tells, column by column.
+fn in_order([state, wave, contactor, fault, closings]: [&str; 5]) -> String {
+    format!("{state:<5}  {wave:<16}  {contactor:<9}  {fault:<19}  {closings:>8}")
 }
 
-/// The same of a reply that tells nothing.
-fn nothing() -> String {
-    let none = "-";
-    format!("{none:<5}  {none:<16}  {none:<9}  {none:<19}  {none:>8}")
+/// The same on a narrow terminal, before the sample and after it: the contactor tells whether the van is supplied.
+fn narrow([state, wave, contactor, fault, closings]: [&str; 5]) -> [String; 2] {
+    [
+        format!("{contactor:<9}  {state:<5}  {wave:<16}"),
+        format!("{fault:<19}  {closings:>8}"),
+    ]
 }
 
 /// A text, and spaces up to a width.
@@ -349,21 +372,6 @@ fn pad(row: &mut String, text: &str, width: usize) {
 fn right(row: &mut String, text: &str, width: usize) {
     row.extend(std::iter::repeat_n(' ', width.saturating_sub(text.len())));
     row.push_str(text);
-}
-
-/// The letters that a terminal shows: colours take no room.
-fn visible(row: &str) -> usize {
-    let mut shown = 0;
-    let mut coloured = false;
-    for c in row.chars() {
-        match (coloured, c) {
-            (false, '\x1b') => coloured = true,
-            (true, 'm') => coloured = false,
-            (false, _) => shown += 1,
-            (true, _) => {}
-        }
-    }
-    shown
 }
 
 /// The current on each line, as the reply shows it.

@@ -249,10 +249,10 @@ impl Post {
         let before = self.state;
         let reply = asked.reply;
         let levels = self.levels(call);
-        let (state, outcome) = answer(&before, call, |_| levels, remembered, &mut self.room);
+        let (after, outcome) = answer(&before, call, |_| levels, remembered, &mut self.room);
         self.state = meaning(&asked.lent);
         let mut what = unlike(&reply, &outcome.reply);
-        what.extend(unlike_kept(&self.state, &state));
+        what.extend(unlike_kept(&self.state, &after));
         if !what.is_empty() {
             return Err(Differs { line, what });
         }
@@ -263,7 +263,7 @@ impl Post {
             reply,
             begun: self.begun,
             before,
-            after: state,
+            after,
             outcome,
             sample: sampled(call, &reply, levels, &before),
             previous: match call {
@@ -273,12 +273,7 @@ impl Post {
             overrun: self.overrun,
             silence: None,
         };
-        self.list += u32::from(turn.begins());
-        turn.list = self.list;
-        turn.silence = self.silence(&turn);
-        self.overrun = turn.overrun_after();
-        self.begun |= turn.begins();
-        self.keep(&turn);
+        self.keep(&mut turn);
         Ok(turn)
     }
 
@@ -311,11 +306,20 @@ impl Post {
         }
     }
 
-    /// The previous sample of the next call.
-    fn keep(&mut self, turn: &Turn) {
-        if !turn.accepted() {
-            return;
+    /// What goes on from call to call: the list, the silence, the over-run, the previous sample.
+    fn keep(&mut self, turn: &mut Turn) {
+        self.list += u32::from(turn.begins());
+        turn.list = self.list;
+        turn.silence = self.silence(turn);
+        self.overrun = turn.overrun_after();
+        self.begun |= turn.begins();
+        if turn.accepted() {
+            self.keep_previous(turn);
         }
+    }
+
+    /// The previous sample of the next call.
+    fn keep_previous(&mut self, turn: &Turn) {
         let time = turn.after.last;
         self.previous = match (turn.begins(), turn.sample) {
             (true, _) => Err(Forgotten::Never),

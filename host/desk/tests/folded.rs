@@ -69,14 +69,9 @@ fn a_line_is_whole_where_there_is_no_terminal() {
 fn narrow_rows_have_their_words_below() {
     let shown = shown(Some(80), Paint::none());
     let rows: Vec<&str> = table(&shown).lines().collect();
-    let place = rows
-        .iter()
-        .position(|row| {
-            row.starts_with(
-                "   7     40  sample 6,000 / -12,000    C proven    C2     53.3 % = 31.98 A",
-            )
-        })
-        .expect("a row");
+    let closing =
+        "   7     40  sample 6,000 / -12,000    closed     C2     53.3 % = 31.98 A  C pro";
+    let place = rows.iter().position(|row| *row == closing).expect("a row");
     assert_eq!(
         rows[place + 1],
         "      >> CLOSED: proven in C at 30 and 40; not opened since begin"
