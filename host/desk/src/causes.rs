@@ -62,8 +62,12 @@ pub fn notes(turn: &Turn) -> Vec<Note> {
 /// A time without an accepted call.
 pub fn silent(silence: &Silence) -> String {
     let judged = if silence.over { "was" } else { "is" };
-    let long = grouped(silence.long());
-    format!("no accepted call for {long} ms while closed: the 80 ms rule {judged} not judged")
+    let long = grouped(silence.long);
+    let (least, by) = match silence.strayed {
+        true => ("at least ", ", by the refused calls' own times"),
+        false => ("", ""),
+    };
+    format!("no accepted call for {least}{long} ms while closed{by}: the 80 ms rule {judged} not judged")
 }
 
 pub fn note(kind: Kind, words: String) -> Note {

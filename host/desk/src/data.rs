@@ -27,7 +27,6 @@ impl Format {
 pub enum Value<'a> {
     None,
     Number(i128),
-    Bool(bool),
     Text(&'a str),
     Owned(String),
 }
@@ -80,12 +79,12 @@ impl Rows {
                     .push_str(if self.row.is_empty() { "{" } else { "," });
                 json_text(&mut self.row, name);
                 self.row.push(':');
-                json(&mut self.row, &value);
+                write_value(&mut self.row, &value, "null", json_text);
             }
             _ => {
                 // A mark in front, so that an empty first field is one, too.
                 self.row.push(',');
-                csv(&mut self.row, &value);
+                write_value(&mut self.row, &value, "", csv_text);
                 if let Some(heading) = &mut self.heading {
                     heading.push(',');
                     heading.push_str(name);
@@ -108,16 +107,16 @@ impl Rows {
     }
 }
 
-// Writing to a string does not fail.
-fn json(row: &mut String, value: &Value) {
+/// Writes a value; texts, and what is none, have their own form.
+fn write_value(row: &mut String, value: &Value, none: &str, text: fn(&mut String, &str)) {
     match value {
-        Value::None => row.push_str("null"),
+        Value::None => row.push_str(none),
+        // Writing to a string does not fail.
         Value::Number(number) => {
             let _ = write!(row, "{number}");
         }
-        Value::Bool(value) => row.push_str(if *value { "true" } else { "false" }),
-        Value::Text(text) => json_text(row, text),
-        Value::Owned(text) => json_text(row, text),
+        Value::Text(words) => text(row, words),
+        Value::Owned(words) => text(row, words),
     }
 }
 
@@ -135,18 +134,6 @@ fn json_text(row: &mut String, text: &str) {
         }
     }
     row.push('"');
-}
-
-fn csv(row: &mut String, value: &Value) {
-    match value {
-        Value::None => {}
-        Value::Number(number) => {
-            let _ = write!(row, "{number}");
-        }
-        Value::Bool(value) => row.push_str(if *value { "true" } else { "false" }),
-        Value::Text(text) => csv_text(row, text),
-        Value::Owned(text) => csv_text(row, text),
-    }
 }
 
 fn csv_text(row: &mut String, text: &str) {

@@ -126,10 +126,7 @@ fn happened(rows: &mut Rows, turn: Option<&Turn>) {
     let unsound = opened.and_then(Unsound::behind);
     rows.field("unsound", Value::text(unsound.map_or("", Unsound::words)));
     let silence = turn.and_then(|turn| turn.silence);
-    rows.field(
-        "silence",
-        Value::maybe(silence.map(|silence| silence.long())),
-    );
+    rows.field("silence", Value::maybe(silence.map(|silence| silence.long)));
 }
 
 /// What the post recorded, against what was commanded.

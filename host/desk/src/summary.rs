@@ -111,8 +111,9 @@ pub struct Summary {
     pub refused_now: u64,
     /// The last accepted call, and whether it left the contactor closed.
     pub held: Option<(Moment, bool)>,
-    /// The silence that goes on.
-    unjudged: Option<u64>,
+    /// The silence that goes on, and the greatest time in it.
+    unjudged: Option<Silence>,
+    latest: u64,
 }
 
 impl Summary {
@@ -123,7 +124,7 @@ impl Summary {
     /// The longest silence, ms.
     pub fn longest_silence(&self) -> u64 {
         let longest = self.silences.longest;
-        longest.map_or(0, |longest| longest.1.long())
+        longest.map_or(0, |longest| longest.1.long)
     }
 
     /// One more line.
@@ -161,15 +162,14 @@ impl Summary {
         if !turn.accepted() {
             self.refusals[turn.reply.refusal as usize] += 1;
             self.refused_now += 1;
-            if let (Some(time), true) = (turn.credible_time(), turn.before.closed) {
-                let unjudged = self.unjudged.unwrap_or(0);
-                self.unjudged = Some(unjudged.max(time));
-            }
+            self.unjudged = turn.unjudged;
+            self.latest = self.latest.max(turn.credible_time().unwrap_or(0));
             return;
         }
         self.goes_on(turn);
         self.refused_now = 0;
         self.unjudged = None;
+        self.latest = turn.after.last;
         self.held = Some((moment, turn.reply.closed));
         if turn.begins() {
             self.lists += 1;
@@ -186,17 +186,14 @@ impl Summary {
         }
     }
 
-    /// Time went on up to an accepted call.
+    /// Time went on up to an accepted call. The time between two lists is of neither: the post may have been off.
     fn goes_on(&mut self, turn: &Turn) {
-        let anew = turn.begins() && !turn.clock_runs_on();
-        let until = if anew {
-            self.unjudged.unwrap_or(0)
-        } else {
-            turn.after.last
+        let until = match turn.begins() {
+            true => self.latest,
+            false => turn.after.last,
         };
-        let passed = until.saturating_sub(turn.before.last);
         if turn.begun && turn.before.closed {
-            self.switching.closed += passed;
+            self.switching.closed += until.saturating_sub(turn.before.last);
         }
         if turn.begun {
             self.records.passes(until, turn.before.closed);
@@ -245,15 +242,17 @@ impl Summary {
             self.switching.closed += if closed { passed } else { 0 };
             self.records.passes(last.end, closed);
         }
-        if let (Some(to), Some((held, true))) = (self.unjudged, self.held) {
-            self.silences.goes_on(held, to);
+        if let (Some(unjudged), Some((held, _))) = (self.unjudged, self.held) {
+            self.silences.goes_on(held.list, unjudged);
         }
     }
 }
 
 impl Switching {
     fn begin(&mut self, turn: &Turn) {
-        self.by_begin += u64::from(turn.begun_while_closed());
+        let opened = u64::from(turn.begun_while_closed());
+        self.by_begin += opened;
+        self.troubled += opened;
         // A clock that starts anew tells nothing of the time between.
         let last = self.last_closing.or(self.closing_before);
         self.closing_before = last.filter(|_| turn.clock_runs_on());
@@ -316,18 +315,16 @@ impl Silences {
         }
     }
 
-    /// A silence that no accepted call ends.
-    fn goes_on(&mut self, held: Moment, to: u64) {
-        let from = held.time;
-        let over = false;
-        if to - from > crate::turn::SILENT {
-            self.add(held.list, Silence { from, to, over });
+    /// One that no accepted call ends.
+    fn goes_on(&mut self, list: u32, unjudged: Silence) {
+        if unjudged.is_long() {
+            self.add(list, unjudged);
         }
     }
 
     fn add(&mut self, list: u32, silence: Silence) {
         self.count += 1;
-        let is_longer = |longest: (u32, Silence)| longest.1.long() < silence.long();
+        let is_longer = |longest: (u32, Silence)| longest.1.long < silence.long;
         if self.longest.is_none_or(is_longer) {
             self.longest = Some((list, silence));
         }

@@ -203,14 +203,20 @@ impl Totals<'_> {
             return Ok(());
         };
         let at = |time| self.at(Moment { list, time });
-        writeln!(
-            out,
-            "  silence   {} without an accepted call while closed; the longest {} ms, from {} to {}: the 80 ms rule was not judged",
-            counted(silences.count, "time"),
-            grouped(longest.long()),
-            at(longest.from),
-            at(longest.to)
-        )
+        let from = at(longest.from);
+        let long = match longest.strayed {
+            true => format!(
+                "at least {} ms by the refused calls' own times, from {from} on",
+                grouped(longest.long)
+            ),
+            false => format!(
+                "{} ms, from {from} to {}",
+                grouped(longest.long),
+                at(longest.from + longest.long)
+            ),
+        };
+        let times = counted(silences.count, "time");
+        writeln!(out, "  silence   {times} without an accepted call while closed; the longest {long}: the 80 ms rule was not judged")
     }
 
     /// What the post recorded.

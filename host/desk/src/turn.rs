@@ -55,18 +55,25 @@ pub const SILENT: u64 = 100;
 /// No call is accepted after this time, ms (refusal 3).
 pub const LARGEST_TIME: u64 = 1_000_000_000_000;
 
+/// From one call that is refused for its own time to the next, a longer step is a jump of the clock.
+const STEP: u64 = 1_000;
+
 /// A time with the contactor closed and no accepted call.
 #[derive(Clone, Copy, Debug, PartialEq, Eq)]
 pub struct Silence {
+    /// The last accepted call.
     pub from: u64,
-    pub to: u64,
+    /// How long, ms; by the clock, or by the steps of calls that are refused for their own times: then at least so long.
+    pub long: u64,
+    pub strayed: bool,
     /// An accepted call ends it; else a refused one finds it going on.
     pub over: bool,
 }
 
 impl Silence {
-    pub fn long(&self) -> u64 {
-        self.to - self.from
+    /// Too long to be left unsaid?
+    pub fn is_long(&self) -> bool {
+        self.long > SILENT
     }
 }
 
@@ -93,7 +100,9 @@ pub struct Turn<'a> {
     pub previous: Result<Sample, Forgotten>,
     /// The over-run as the call found it.
     pub overrun: Option<Overrun>,
-    /// The silence that it ends, or is the first refused call in.
+    /// What went by with the contactor closed since the last accepted call.
+    pub unjudged: Option<Silence>,
+    /// The same if it is long, and the call ends it or is the first refused one to find it so.
     pub silence: Option<Silence>,
 }
 
@@ -214,6 +223,9 @@ pub struct Post {
     overrun: Option<Overrun>,
     /// A refused call was found in the present silence.
     silent: bool,
+    /// Since the last accepted call: the last time that was refused itself, and how far these have gone on, ms.
+    stray: Option<u64>,
+    strayed: u64,
     room: Room,
 }
 
@@ -227,6 +239,8 @@ impl Default for Post {
             previous: Err(Forgotten::Never),
             overrun: None,
             silent: false,
+            stray: None,
+            strayed: 0,
             room: Room::default(),
         }
     }
@@ -271,25 +285,50 @@ impl Post {
                 _ => self.previous,
             },
             overrun: self.overrun,
+            unjudged: None,
             silence: None,
         };
         self.keep(&mut turn);
         Ok(turn)
     }
 
-    /// The silence that a call ends, or is the first refused call in.
-    fn silence(&mut self, turn: &Turn) -> Option<Silence> {
-        let told = self.silent;
-        self.silent &= !turn.accepted();
-        let (from, to) = (turn.before.last, turn.credible_time()?);
-        // A clock that starts anew tells nothing of the time between.
-        let is_long = turn.before.closed && to.checked_sub(from)? > SILENT;
-        if !is_long || (told && !turn.accepted()) {
+    /// What goes by with the contactor closed and no accepted call, up to this one.
+    fn unjudged(&mut self, turn: &Turn) -> Option<Silence> {
+        let strayed = self.strayed(turn);
+        if !turn.before.closed {
             return None;
         }
-        let over = turn.accepted();
-        self.silent = !over;
-        Some(Silence { from, to, over })
+        let from = turn.before.last;
+        // A clock that starts anew tells nothing of the time between.
+        let time = turn.credible_time().unwrap_or(from);
+        let by_clock = time.saturating_sub(from);
+        Some(Silence {
+            from,
+            long: by_clock.max(strayed),
+            strayed: strayed > by_clock,
+            over: turn.accepted(),
+        })
+    }
+
+    /// How far the times have gone on of calls that were refused for them, since the last accepted call.
+    fn strayed(&mut self, turn: &Turn) -> u64 {
+        if turn.accepted() {
+            self.stray = None;
+            return std::mem::take(&mut self.strayed);
+        }
+        if turn.credible_time().is_none() {
+            let time = turn.call.time();
+            let step = self.stray.map_or(0, |last| time.saturating_sub(last));
+            self.strayed += if step > STEP { 0 } else { step };
+            self.stray = Some(time);
+        }
+        self.strayed
+    }
+
+    /// Is it to be told: a long one, once by a refused call and once when it is over?
+    fn is_told(&mut self, unjudged: &Silence) -> bool {
+        let told = std::mem::replace(&mut self.silent, unjudged.is_long() && !unjudged.over);
+        unjudged.is_long() && (unjudged.over || !told)
     }
 
     /// The levels of a sample; any refusal does for another call.
@@ -310,7 +349,8 @@ impl Post {
     fn keep(&mut self, turn: &mut Turn) {
         self.list += u32::from(turn.begins());
         turn.list = self.list;
-        turn.silence = self.silence(turn);
+        turn.unjudged = self.unjudged(turn);
+        turn.silence = turn.unjudged.filter(|unjudged| self.is_told(unjudged));
         self.overrun = turn.overrun_after();
         self.begun |= turn.begins();
         if turn.accepted() {

@@ -10,7 +10,7 @@ use crate::lists::{Ask, Lists, Moment};
 use crate::paint::{Colour, Paint};
 use crate::running::fault_2_due;
 use crate::table::safe;
-use crate::turn::{Silence, Turn, SILENT};
+use crate::turn::{Silence, Turn};
 use crate::words::{call, grouped, lines, wave};
 use chuldariin_log::record::{contact_word, state_word};
 use chuldariin_log::{Call, Entry, Line};
@@ -460,18 +460,36 @@ impl Told<'_> {
         writeln!(out, "The contactor is closed since line {line}, at {time}.")?;
         writeln!(out, "{}", closed(closing))?;
         running(&self.last, out)?;
-        let (from, to) = (self.last.after.last, self.now());
-        let silence = Silence {
-            from,
-            to,
-            over: true,
-        };
-        if to.saturating_sub(from) > SILENT {
+        let silence = self.silence();
+        if silence.is_long() {
             let words = silent(&silence);
             let words = format!("{}{}.", words[..1].to_uppercase(), &words[1..]);
             writeln!(out, "{}", paint.colour(Colour::Red, &words))?;
         }
         Ok(())
+    }
+
+    /// What went by since the last accepted call: by the clock up to the end of the list, or by the refused calls' own times.
+    fn silence(&self) -> Silence {
+        let from = self.last.after.last;
+        let list = self.answer.lists.get(self.last.list);
+        let end = list.map_or(from, |list| list.end.max(from));
+        let by_clock = Silence {
+            from,
+            long: self.now().min(end).saturating_sub(from),
+            strayed: false,
+            over: true,
+        };
+        let asked = self.answer.found.asked.as_ref();
+        let found = asked.and_then(|asked| asked.turn().unjudged);
+        let found = found.filter(|found| found.strayed && !found.over);
+        match found.filter(|found| found.long > by_clock.long) {
+            Some(strayed) => Silence {
+                over: true,
+                ..strayed
+            },
+            None => by_clock,
+        }
     }
 
     fn open(&self, paint: Paint, out: &mut impl Write) -> io::Result<()> {

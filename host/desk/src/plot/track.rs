@@ -8,7 +8,7 @@ use crate::causes::notes;
 use crate::input::{Log, Taken};
 use crate::latched::Latched;
 use crate::lists::{Lists, Moment};
-use crate::turn::{Overrun, Turn, SILENT};
+use crate::turn::{Overrun, Silence, Turn, SILENT};
 use chuldariin::{raw, reading, Milliamps, Reading};
 use chuldariin_log::Call;
 use chuldariin_model::{State, SOUND_AGE};
@@ -52,6 +52,8 @@ pub struct Unjudged {
     pub closed: bool,
     /// An accepted call ends it; else it lasts to the end of the log.
     pub over: bool,
+    /// What went by while closed.
+    pub silence: Option<Silence>,
 }
 
 /// The last accepted call.
@@ -59,8 +61,10 @@ pub struct Unjudged {
 struct Accepted {
     at: u64,
     closed: bool,
-    /// Calls were refused since.
+    /// Calls were refused since; some of them for their own time.
     refused: bool,
+    strays: bool,
+    silence: Option<Silence>,
 }
 
 /// A log, or a part of it, as it is drawn. Times are places of the axis, ms.
@@ -182,6 +186,8 @@ impl Track {
         if !turn.accepted() {
             if let Some(accepted) = &mut self.accepted {
                 accepted.refused = true;
+                accepted.strays |= turn.credible_time().is_none();
+                accepted.silence = turn.unjudged;
             }
             return;
         }
@@ -190,18 +196,21 @@ impl Track {
             at,
             closed,
             refused: false,
+            strays: false,
+            silence: None,
         };
         let Some(before) = self.accepted.replace(this) else {
             return;
         };
         let from = before.at;
-        let is_long = before.closed && at.saturating_sub(from) > SILENT;
-        if is_long && window.overlaps(from, at) {
+        let touches = window.overlaps(from, at.max(from + 1));
+        if turn.silence.is_some() && touches {
             self.unjudged.push(Unjudged {
                 from,
-                to: at,
+                to: at.max(from),
                 closed: true,
                 over: true,
+                silence: turn.silence,
             });
         }
     }
@@ -292,7 +301,8 @@ impl Track {
         let count = self.lists.count();
         let calls_end = self.lists.get(count).map_or(0, |list| list.end);
         let calls_end = self.clock.at(self.lists.now(calls_end));
-        let log_end = calls_end.max(self.records.end);
+        let known_end = calls_end.max(self.records.end);
+        let log_end = known_end + room_for_strays(&accepted, known_end, begin);
         self.unjudged_at_end(accepted, log_end, window);
         self.origin = window.from.map_or(begin, |from| from.at.max(begin));
         self.first = window
@@ -304,7 +314,7 @@ impl Track {
         }
         let to = window.to.filter(|to| to.at < log_end);
         self.end = to.map_or(log_end, |to| to.at).max(self.origin);
-        self.last = to.map_or(self.clock.moment(log_end), |to| to.moment);
+        self.last = to.map_or(self.clock.moment(known_end), |to| to.moment);
         // In a part without an accepted call what held before it goes on.
         if self.closed.is_empty() {
             self.start(window);
@@ -318,6 +328,8 @@ impl Track {
             at: from,
             closed,
             refused,
+            silence,
+            ..
         } = accepted;
         let is_long = closed && end.saturating_sub(from) > SILENT;
         if (refused || is_long) && from < end && window.overlaps(from, end) {
@@ -326,7 +338,16 @@ impl Track {
                 to: end,
                 closed,
                 over: false,
+                silence,
             });
         }
+    }
+}
+
+/// Calls at the end that are refused for their own time have no place of their own: they get a little room behind the last.
+fn room_for_strays(accepted: &Accepted, end: u64, begin: u64) -> u64 {
+    match accepted.strays && accepted.at == end {
+        true => (end - begin) / 25 + 1,
+        false => 0,
     }
 }

@@ -78,8 +78,15 @@ fn words(track: &Track, unjudged: &Unjudged) -> String {
         to,
         closed,
         over,
+        silence,
     } = unjudged;
-    let silence = silent(&Silence { from, to, over });
+    let by_clock = Silence {
+        from,
+        long: to - from,
+        strayed: false,
+        over,
+    };
+    let silence = silent(&silence.unwrap_or(by_clock));
     if over {
         return silence;
     }
@@ -95,7 +102,11 @@ fn words(track: &Track, unjudged: &Unjudged) -> String {
 }
 
 fn longest(several: &[Unjudged]) -> String {
-    let longest = several.iter().map(|one| one.to - one.from).max();
+    let long = |one: &Unjudged| {
+        one.silence
+            .map_or(one.to - one.from, |silence| silence.long)
+    };
+    let longest = several.iter().map(long).max();
     format!(
         "{} times no accepted call for more than 100 ms while closed, the longest {} ms: the 80 ms rule was not judged",
         grouped(several.len() as u64),
