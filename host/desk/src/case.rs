@@ -16,6 +16,8 @@ pub struct Seen<'a> {
     pub what: What<'a>,
     /// What is to be said of the contact.
     pub contact: Option<Event>,
+    /// So far is a record ahead of the calls, ms.
+    pub ahead: u64,
 }
 
 pub enum What<'a> {
@@ -29,16 +31,57 @@ pub enum What<'a> {
     Travel(u64),
 }
 
+/// What the post recorded: its contact, held against the command, and its panel.
+#[derive(Clone, Default)]
+pub struct Watched {
+    pub contact: Contact,
+    /// The panel's words, and since when they stand there.
+    pub panel: Option<(u64, String)>,
+}
+
+impl Watched {
+    /// A call: time goes on, and the command may change.
+    pub fn called(&mut self, turn: &Turn) -> Option<Event> {
+        let time = turn.credible_time()?;
+        if turn.begins() {
+            let runs_on = turn.clock_runs_on();
+            if !runs_on {
+                self.panel = self.panel.take().map(|(_, text)| (time, text));
+            }
+            return self.contact.begin(time, runs_on);
+        }
+        let event = self.contact.at(time);
+        match turn.accepted() {
+            true => self.contact.command(turn.reply.closed, time).or(event),
+            false => event,
+        }
+    }
+
+    pub fn recorded(&mut self, record: &Record) -> Option<Event> {
+        match record {
+            Record::Contact(time, closed) => return self.contact.report(*closed, *time),
+            Record::Panel(time, text) => self.panel = Some((*time, text.clone())),
+            Record::Travel(millis) => self.contact.travels(*millis),
+            Record::Told(_) | Record::Clock(..) => {}
+        }
+        None
+    }
+}
+
+/// Can a record be held against a command? Not with a time that no call can have.
+pub fn is_time(record: &Record) -> bool {
+    record.time().is_none_or(|time| time <= LARGEST_TIME)
+}
+
 /// A log that is replayed.
 pub struct Case {
     post: Post,
     pub lists: Lists,
-    contact: Contact,
+    watched: Watched,
     commanded: Commanded,
-    /// The time of the last call.
+    /// The time of the last call, and the latest that was not refused itself.
     time: u64,
-    /// The panel's words, and since when they stand there.
-    panel: Option<(u64, String)>,
+    latest: u64,
 }
 
 impl Default for Case {
@@ -46,10 +89,10 @@ impl Default for Case {
         Case {
             post: Post::default(),
             lists: Lists::default(),
-            contact: Contact::default(),
+            watched: Watched::default(),
             commanded: Commanded::nothing(),
             time: 0,
-            panel: None,
+            latest: 0,
         }
     }
 }
@@ -78,17 +121,18 @@ impl Case {
             }
             Line::Record(record) => self.recorded(record),
         };
-        let time = match &entry.what {
-            Line::Record(record) => record.time().unwrap_or(self.time),
-            _ => self.time,
+        let own = match &entry.what {
+            Line::Record(record) => record.time(),
+            _ => None,
         };
-        let moment = self.lists.now(time);
+        let moment = self.lists.now(own.unwrap_or(self.time));
         Ok(Seen {
             line: entry.line,
             moment,
             wall: self.lists.wall(moment),
             what,
             contact,
+            ahead: own.map_or(0, |time| time.saturating_sub(self.latest)),
         })
     }
 
@@ -96,61 +140,37 @@ impl Case {
         self.time = turn.call.time();
         self.commanded = Commanded::by(turn);
         self.lists.see(turn);
-        if turn.begins() {
-            let runs_on = turn.clock_runs_on();
-            if !runs_on {
-                self.panel = self.panel.take().map(|(_, text)| (self.time, text));
-            }
-            return self.contact.begin(self.time, runs_on);
-        }
-        let event = self.contact.at(turn.credible_time()?);
-        match turn.accepted() {
-            true => self.contact.command(turn.reply.closed, self.time).or(event),
-            false => event,
-        }
+        self.latest = match turn.begins() {
+            true => self.time,
+            false => self.latest.max(turn.credible_time().unwrap_or(0)),
+        };
+        self.watched.called(turn)
     }
 
     fn recorded<'a>(&mut self, record: &'a Record) -> (What<'a>, Option<Event>) {
-        match record {
-            Record::Told(told) => (What::Told(told, self.commanded.differences(told)), None),
-            Record::Contact(time, closed) => {
-                let event = self
-                    .is_time(*time)
-                    .then(|| self.contact.report(*closed, *time));
-                (What::Contact(*closed), event.flatten())
-            }
-            Record::Panel(time, text) => {
-                self.panel = Some((*time, text.clone()));
-                (What::Panel(text), None)
-            }
+        // Before the first begin there is no list that a record could be of.
+        let counts = self.lists.count() > 0 && is_time(record);
+        let event = counts.then(|| self.watched.recorded(record)).flatten();
+        let what = match record {
+            Record::Told(told) => What::Told(told, self.commanded.differences(told)),
+            Record::Contact(_, closed) => What::Contact(*closed),
+            Record::Panel(_, text) => What::Panel(text),
             Record::Clock(time, wall) => {
                 self.lists.tie(*time, *wall);
-                (What::Clock, None)
+                What::Clock
             }
-            Record::Travel(millis) => {
-                self.contact.travels(*millis);
-                (What::Travel(*millis), None)
-            }
-        }
-    }
-
-    /// Can a record be held against a command? Not before the first begin, nor with a time that no call can have.
-    fn is_time(&self, time: u64) -> bool {
-        self.lists.count() > 0 && time <= LARGEST_TIME
+            Record::Travel(millis) => What::Travel(*millis),
+        };
+        (what, event)
     }
 
     /// The contact as it was last reported.
     pub fn contact(&self) -> &Contact {
-        &self.contact
-    }
-
-    /// The panel's words, and since when.
-    pub fn panel(&self) -> Option<&(u64, String)> {
-        self.panel.as_ref()
+        &self.watched.contact
     }
 
     /// A contact that fails at the end of the log, and for how long it has.
     pub fn contact_at_end(&self) -> Option<(Failing, u64)> {
-        self.contact.end()
+        self.watched.contact.end()
     }
 }

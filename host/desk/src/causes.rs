@@ -199,11 +199,19 @@ fn opened(turn: &Turn) -> String {
 /// One cause in words, with its figures.
 pub fn because(turn: &Turn, cause: usize) -> String {
     match (cause, turn.sample, turn.previous) {
-        (0, Some(this), Ok(previous)) => format!(
-            "two unsound samples in a row, {}: {}",
-            Unsound::of(&previous, &this).words(),
-            both_off(&previous, &this, unsound)
-        ),
+        (0, Some(this), Ok(previous)) => {
+            let kind = Unsound::of(&previous, &this);
+            let off = if kind == Unsound::NoLow {
+                low_off
+            } else {
+                unsound
+            };
+            format!(
+                "two unsound samples in a row, {}: {}",
+                kind.words(),
+                both_off(&previous, &this, off)
+            )
+        }
         (1, _, _) => match turn.after.sound {
             Some(sound) => format!(
                 "{} ms since the last sound sample",

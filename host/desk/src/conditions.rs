@@ -14,9 +14,12 @@ pub struct Condition {
     pub detail: String,
 }
 
-/// The closing conditions of an accepted call.
-pub fn conditions(turn: &Turn) -> Vec<Condition> {
+/// The closing conditions of an accepted call; the pause goes on to the moment that is asked for.
+pub fn conditions(turn: &Turn, now: u64) -> Vec<Condition> {
     let found = found(turn);
+    let now = now.max(turn.after.last);
+    let pause_over = |opening: u64| now - opening >= turn.after.pause;
+    let pause_over = turn.after.opening.map_or(found.pause_over, pause_over);
     let condition = |name, holds, detail| Condition {
         name,
         holds,
@@ -38,7 +41,7 @@ pub fn conditions(turn: &Turn) -> Vec<Condition> {
             previous_detail(turn),
         ),
         condition("both in one band", found.same_band, band_detail(turn)),
-        condition("pause", found.pause_over, pause_detail(turn)),
+        condition("pause", pause_over, pause_detail(turn, now)),
     ];
     if turn.after.digital {
         conditions.push(condition(
@@ -159,8 +162,8 @@ fn forgets(turn: &Turn) -> bool {
     turn.outcome.opened || turn.outcome.latched.contains(&true)
 }
 
-fn pause_detail(turn: &Turn) -> String {
-    let (pause, now) = (turn.after.pause, turn.after.last);
+fn pause_detail(turn: &Turn, now: u64) -> String {
+    let pause = turn.after.pause;
     match turn.after.opening {
         None => "not opened since begin".to_string(),
         Some(opening) if now - opening >= pause => format!(

@@ -67,11 +67,13 @@ pub struct Contact {
     command: (bool, u64),
     /// What was last reported, and since when it is so.
     reported: Option<(bool, u64)>,
+    /// The time of that report, or of a later one.
+    latest: u64,
     /// It has been as commanded since the command came.
     followed: bool,
     /// It fails, and that was told.
     told: bool,
-    /// The greatest time so far.
+    /// The greatest time of a call.
     now: u64,
 }
 
@@ -81,6 +83,7 @@ impl Default for Contact {
             travel: TRAVEL,
             command: (false, 0),
             reported: None,
+            latest: 0,
             followed: true,
             told: false,
             now: 0,
@@ -99,11 +102,16 @@ impl Contact {
         self.travel = millis;
     }
 
-    /// Time goes on.
+    /// A call tells the time.
     pub fn at(&mut self, time: u64) -> Option<Event> {
         self.now = self.now.max(time);
+        self.judge(time)
+    }
+
+    /// Does it fail by then, and was that not told?
+    fn judge(&mut self, time: u64) -> Option<Event> {
         let failing = self.failing().filter(|_| !self.told)?;
-        let long = self.now - failing.from;
+        let long = time.saturating_sub(failing.from);
         self.told = long > self.travel;
         self.told.then_some(Event::Fails(failing, long))
     }
@@ -121,9 +129,14 @@ impl Contact {
 
     /// The contact is reported.
     pub fn report(&mut self, closed: bool, time: u64) -> Option<Event> {
+        // One that was written late tells nothing new.
+        if time < self.latest {
+            return None;
+        }
+        self.latest = time;
         let time = time.max(self.command.1);
         if self.reported.is_some_and(|reported| reported.0 == closed) {
-            return self.at(time);
+            return self.judge(time);
         }
         let ends = self.ends(time);
         self.reported = Some((closed, time));
@@ -146,6 +159,7 @@ impl Contact {
             return self.command(false, time).or(told);
         }
         let ends = self.ends(self.now);
+        self.latest = 0;
         self.now = time;
         self.command = (false, time);
         self.reported = self.reported.map(|(closed, _)| (closed, time));
@@ -156,7 +170,7 @@ impl Contact {
     /// The log ends: how long has it failed?
     pub fn end(&self) -> Option<(Failing, u64)> {
         let failing = self.failing().filter(|_| self.told)?;
-        Some((failing, self.now - failing.from))
+        Some((failing, self.now.saturating_sub(failing.from)))
     }
 
     /// Is it not as commanded, and for longer than it may be?
@@ -183,7 +197,6 @@ impl Contact {
     /// What failed up to now is over; what was no failure yet may have become one by then.
     fn ends(&mut self, time: u64) -> Option<Event> {
         let told = std::mem::take(&mut self.told);
-        self.now = self.now.max(time);
         let failing = self.failing()?;
         let long = time.saturating_sub(failing.from);
         (told || long > self.travel).then_some(Event::Ends(failing, long))

@@ -60,15 +60,25 @@ impl Value<'_> {
 pub struct Rows {
     format: Format,
     row: String,
-    heading: Option<String>,
+    /// The names of the fields, as long as they have to be written.
+    heading: Option<&'static [&'static str]>,
 }
 
 impl Rows {
-    pub fn new(format: Format, headed: bool) -> Rows {
+    /// Rows of CSV start with a heading.
+    pub fn new(format: Format, fields: &'static [&'static str], headed: bool) -> Rows {
         Rows {
             format,
             row: String::new(),
-            heading: (headed && format == Format::Csv).then(String::new),
+            heading: (headed && format == Format::Csv).then_some(fields),
+        }
+    }
+
+    /// The heading, which also stands above no row at all.
+    pub fn start(&mut self, out: &mut impl Write) -> io::Result<()> {
+        match self.heading.take() {
+            Some(fields) => write!(out, "{}\r\n", fields.join(",")),
+            None => Ok(()),
         }
     }
 
@@ -85,19 +95,13 @@ impl Rows {
                 // A mark in front, so that an empty first field is one, too.
                 self.row.push(',');
                 write_value(&mut self.row, &value, "", csv_text);
-                if let Some(heading) = &mut self.heading {
-                    heading.push(',');
-                    heading.push_str(name);
-                }
             }
         }
     }
 
     /// The row is whole.
     pub fn end(&mut self, out: &mut impl Write) -> io::Result<()> {
-        if let Some(heading) = self.heading.take() {
-            write!(out, "{}\r\n", &heading[1..])?;
-        }
+        self.start(out)?;
         match self.format {
             Format::Json => writeln!(out, "{}}}", self.row)?,
             _ => write!(out, "{}\r\n", &self.row[1..])?,

@@ -13,6 +13,8 @@ pub enum Unfit {
     Unread(io::Error),
     /// Two bytes a character.
     Utf16,
+    /// By gzip, and its name does not say so.
+    Packed,
     Lines(WrongLines),
     /// No call at all.
     Empty,
@@ -29,6 +31,7 @@ impl fmt::Display for Unfit {
         match self {
             Unfit::Unread(error) => write!(f, "can't be read: {error}"),
             Unfit::Utf16 => write!(f, "the log is UTF-16; expected UTF-8: save it as that"),
+            Unfit::Packed => write!(f, "the log is packed by gzip; expected a name that ends in .gz"),
             Unfit::Lines(wrong) => wrong.fmt(f),
             Unfit::Empty => write!(
                 f,
@@ -114,11 +117,12 @@ const TORN: &str = "a line end: without it the last line may be torn";
 
 impl Lines {
     pub fn new(mut input: Input, bad: Bad) -> Result<Lines, Unfit> {
-        let start = input.fill_buf();
-        let utf16 = |start: &[u8]| start.starts_with(b"\xff\xfe") || start.starts_with(b"\xfe\xff");
         // What can't be read is told when it is read.
-        if start.is_ok_and(utf16) {
-            return Err(Unfit::Utf16);
+        let start = input.fill_buf().unwrap_or(&[]);
+        match start.get(..2) {
+            Some(b"\xff\xfe" | b"\xfe\xff") => return Err(Unfit::Utf16),
+            Some(b"\x1f\x8b") => return Err(Unfit::Packed),
+            _ => {}
         }
         Ok(Lines {
             reader: Reader::new(input),
@@ -201,10 +205,7 @@ impl Lines {
 
     /// What was read so far is all there is.
     fn cut(&mut self, error: io::Error) -> Result<Option<Taken>, Unfit> {
-        match self.damage.cut.is_some() {
-            true => {}
-            false => self.damage.cut = Some(error.to_string()),
-        }
+        self.damage.cut.get_or_insert(error.to_string());
         Ok(None)
     }
 }
@@ -304,6 +305,8 @@ impl Log {
             }
         }
         match unfit {
+            // A log that can't be read to its end has a torn line there.
+            Some(unread @ Unfit::Unread(_)) => return Err(unread),
             _ if !wrong.first.is_empty() => return Err(Unfit::Lines(wrong)),
             Some(unfit) => return Err(unfit),
             None => {}

@@ -1,6 +1,7 @@
 //! The lists of a log, and how a moment in them is named: `2:59980` is 59980 ms by the post's clock in list 2.
 
 use crate::turn::Turn;
+use crate::words::refusal;
 use chuldariin_log::Wall;
 use std::fmt;
 
@@ -58,6 +59,8 @@ impl Ask {
             return Wall::parse(word).map(Ask::Wall);
         }
         let moment = word.split_once(':').and_then(|(list, time)| {
+            // 03:45 is a time of day, and no list.
+            let list = Some(list).filter(|list| !list.starts_with('0'))?;
             let list = number(list).and_then(|list| u32::try_from(list).ok())?;
             let time = number(time)?;
             (list > 0).then_some(Moment { list, time })
@@ -67,11 +70,12 @@ impl Ask {
     }
 }
 
-/// The post's clock and the wall's at one moment.
+/// The post's clock and the wall's at one moment; it counts from a time on.
 #[derive(Clone, Copy, Debug, PartialEq, Eq)]
-pub struct Tie {
-    pub time: u64,
-    pub wall: Wall,
+struct Tie {
+    time: u64,
+    from: u64,
+    wall: Wall,
 }
 
 impl Tie {
@@ -96,7 +100,8 @@ pub struct List {
     pub begin: u64,
     /// The greatest time of its calls, but for times that were refused themselves.
     pub end: u64,
-    /// Its last call.
+    /// The line of that call, and the list's last call.
+    pub end_line: usize,
     pub last_line: usize,
     /// Its clock is that of the list before it, which ends here.
     pub runs_on: bool,
@@ -106,17 +111,20 @@ pub struct List {
 impl List {
     /// The times at which the wall's clock showed this; a clock that was set anew may have shown it twice.
     fn times_of(&self, wall: Wall) -> Vec<u64> {
-        let later = self.ties.iter().skip(1).map(|tie| tie.time);
+        let later = self.ties.iter().skip(1).map(|tie| tie.from);
         let ends = later.chain([u64::MAX]);
         let times = self.ties.iter().zip(ends);
-        let time = |(tie, end): (&Tie, u64)| tie.time_of(wall).filter(|time| *time < end);
+        let time = |(tie, end): (&Tie, u64)| {
+            let time = tie.time_of(wall)?;
+            (tie.from..end).contains(&time).then_some(time)
+        };
         times.filter_map(time).collect()
     }
 }
 
 /// The lists of a log, as far as it was replayed.
 #[derive(Clone, Debug, Default)]
-pub struct Lists(Vec<List>);
+pub struct Lists(Vec<List>, Option<String>);
 
 impl Lists {
     pub fn see(&mut self, turn: &Turn) {
@@ -126,22 +134,44 @@ impl Lists {
                 line: turn.line,
                 begin,
                 end: begin,
+                end_line: turn.line,
                 last_line: turn.line,
-                runs_on: self.0.last().is_some_and(|before| begin >= before.end),
+                runs_on: turn.clock_runs_on(),
                 ties: Vec::new(),
             });
+        } else if self.0.is_empty() {
+            self.refused_begin(turn);
         } else if let Some(list) = self.0.last_mut() {
             list.last_line = turn.line;
-            if let Some(time) = turn.credible_time() {
-                list.end = list.end.max(time);
+            if let Some(time) = turn.credible_time().filter(|time| *time >= list.end) {
+                (list.end, list.end_line) = (time, turn.line);
             }
         }
+    }
+
+    /// Why the first begin is refused, as long as none is accepted.
+    fn refused_begin(&mut self, turn: &Turn) {
+        let (number, line) = (turn.reply.refusal, turn.line);
+        let why = || format!("line {line} is refused by {number}: {}", refusal(turn));
+        self.1.get_or_insert_with(why);
+    }
+
+    /// That nothing has begun, and why.
+    pub fn not_begun(&self) -> String {
+        let why = self
+            .1
+            .as_ref()
+            .map_or(String::new(), |why| format!("; {why}"));
+        format!("no call of the log is accepted: nothing has begun{why}")
     }
 
     /// From this moment on the wall's clock is known, in the present list.
     pub fn tie(&mut self, time: u64, wall: Wall) {
         if let Some(list) = self.0.last_mut() {
-            list.ties.push(Tie { time, wall });
+            // One that was written late says nothing of what was shown before it.
+            let last = list.ties.last().map_or(0, |tie| tie.from);
+            let from = time.max(last);
+            list.ties.push(Tie { time, from, wall });
         }
     }
 
@@ -162,7 +192,7 @@ impl Lists {
     /// What the wall's clock shows, if that is known by then.
     pub fn wall(&self, moment: Moment) -> Option<Wall> {
         let ties = &self.get(moment.list)?.ties;
-        let tie = ties.iter().rev().find(|tie| tie.time <= moment.time)?;
+        let tie = ties.iter().rev().find(|tie| tie.from <= moment.time)?;
         tie.at(moment.time)
     }
 
@@ -192,10 +222,18 @@ impl Lists {
         match moments.as_slice() {
             [moment] => Ok(*moment),
             [] => Err(self.none(ask)),
-            _ => Err(NoMoment {
-                words: format!("{ask} fits {} lists", moments.len()),
-                expected: format!("one of them: {}", named(&moments)),
-            }),
+            [first, .., last] => {
+                // A clock that was set back shows a time twice.
+                let what = if first.list == last.list {
+                    "moments"
+                } else {
+                    "lists"
+                };
+                Err(NoMoment {
+                    words: format!("{ask} fits {} {what}", moments.len()),
+                    expected: format!("one of them: {}", named(&moments)),
+                })
+            }
         }
     }
 
@@ -249,10 +287,7 @@ impl Lists {
     fn none(&self, ask: Ask) -> NoMoment {
         let no = |words: String, expected: String| NoMoment { words, expected };
         match (ask, self.0.first()) {
-            (_, None) => no(
-                "no call of the log is accepted: nothing has begun".to_string(),
-                String::new(),
-            ),
+            (_, None) => no(self.not_begun(), String::new()),
             (Ask::In(Moment { list, .. }), _) => match self.get(list) {
                 Some(found) => no(
                     format!(
@@ -266,7 +301,11 @@ impl Lists {
                     format!("a list from 1 to {}", self.count()),
                 ),
             },
-            (Ask::Wall(_), _) => match self.first_tie() {
+            (Ask::Wall(asked), _) => match self.first_tie() {
+                Some((_, wall)) if asked.millis >= wall.millis => no(
+                    "the wall's clock never showed that: it was set past it".to_string(),
+                    "a time of the post's clock".to_string(),
+                ),
                 Some((moment, wall)) => no(
                     format!(
                         "the wall's clock is known from {wall} on, which is {}",

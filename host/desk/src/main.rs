@@ -4,12 +4,15 @@ use chuldariin_desk::data::Format;
 use chuldariin_desk::fold::{width_of_stdout, Folded};
 use chuldariin_desk::input::{read, shown, Bad, Damage, Unfit};
 use chuldariin_desk::lists::NoMoment;
+use chuldariin_desk::many::Replayed;
 use chuldariin_desk::options::{command, Command, Replay, USAGE};
 use chuldariin_desk::paint::Paint;
 use chuldariin_desk::plot::{plot, title, NothingThere};
 use chuldariin_desk::progress::Progress;
 use chuldariin_desk::replay::{replay, stream, Only, Part, Show};
+use chuldariin_desk::turn::Differs;
 use chuldariin_desk::why::{why, TooEarly};
+use chuldariin_desk::words::counted;
 use chuldariin_desk::{demo, many, overview, source, write};
 use std::error::Error;
 use std::fs;
@@ -32,7 +35,7 @@ fn main() -> ExitCode {
     let ended = match asked {
         Ok(command) => run(command),
         Err(what) => {
-            complain(&format!("{what}\n\n{USAGE}"));
+            complain(&format!("{what}\n(chuldariin --help has all of it)\n"));
             return ExitCode::from(WRONG);
         }
     };
@@ -89,8 +92,8 @@ fn run(command: Command) -> Result<u8, Box<dyn Error>> {
             let logs = many::all(&files, bad);
             let width = width_of_stdout().filter(|_| format == Format::Text);
             overview::print(&logs, format, &mut Folded::new(&mut out, width))?;
-            let all = logs.iter().all(|log| log.whole.is_ok());
-            status = if all { 0 } else { WRONG };
+            logs.iter().for_each(told_damage);
+            status = logs.iter().map(status_of).max().unwrap_or(0);
         }
         Command::Demo { folder } => demo::demo(&folder, paint, &mut out)?,
     }
@@ -149,6 +152,21 @@ fn stream_one(file: &str, asked: &Replay, show: Show, out: &mut Out) -> Result<(
     Ok(())
 }
 
+/// The worst of what happened to a log: wrong, or not to be explained.
+fn status_of(log: &Replayed) -> u8 {
+    match &log.whole {
+        Ok(_) => 0,
+        Err(error) if error.is::<Differs>() => FAILED,
+        Err(_) => WRONG,
+    }
+}
+
+fn told_damage(log: &Replayed) {
+    if let Ok(whole) = &log.whole {
+        damaged(&log.name, &whole.damage);
+    }
+}
+
 /// Says what was left out of a log, and what may be torn.
 fn damaged(name: &str, damage: &Damage) {
     if damage.bad_lines() > 0 {
@@ -156,9 +174,9 @@ fn damaged(name: &str, damage: &Damage) {
         complain(&format!("{name}: bad lines are left out, and what follows one may differ from what the post did:\n  {lines}\n"));
     }
     if damage.before_begin > 0 {
+        let lines = counted(damage.before_begin, "line");
         complain(&format!(
-            "{name}: {} lines before the first begin are left out\n",
-            damage.before_begin
+            "{name}: {lines} before the first begin left out\n"
         ));
     }
     if let Some(cut) = &damage.cut {

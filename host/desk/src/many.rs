@@ -63,15 +63,15 @@ pub fn all(names: &[String], bad: Bad) -> Vec<Replayed> {
     done
 }
 
-/// The worse a log, the greater: not replayed, a contact that did not follow, replies that differ, openings that are
+/// The worse a log, the greater: not replayed, nothing begun, a contact that did not follow, replies that differ, openings that are
 /// trouble, the longest silence, refusals.
 fn trouble(log: &Replayed) -> [u64; 6] {
     let Ok(Whole { summary, .. }) = &log.whole else {
-        return [1, 0, 0, 0, 0, 0];
+        return [2, 0, 0, 0, 0, 0];
     };
     let records = &summary.records;
     [
-        0,
+        u64::from(summary.lists == 0),
         records.contact(),
         records.differ,
         summary.switching.troubled,

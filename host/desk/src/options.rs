@@ -63,8 +63,7 @@ pub fn command(words: &[String]) -> Result<Command, String> {
         ["plot", rest @ ..] => plot(rest),
         ["summary", rest @ ..] => summary(rest),
         ["demo"] => Ok(demo("demo")),
-        ["demo", "--", folder] => Ok(demo(folder)),
-        ["demo", folder] if !folder.starts_with('-') => Ok(demo(folder)),
+        ["demo", folder] if !folder.starts_with('-') && !folder.is_empty() => Ok(demo(folder)),
         ["demo", ..] => Err("demo takes one FOLDER to write into, or none".to_string()),
         [other, ..] => Err(format!(
             "'{other}' is no command; expected replay, why, plot, summary or demo"
@@ -93,7 +92,9 @@ fn replay(words: &[&str]) -> Result<Command, String> {
     };
     let (follow, part) = (words.flag("--follow"), words.part()?);
     let files = words.files()?;
-    if follow && (files.len() > 1 || part != (None, None) || files[0].ends_with(".gz")) {
+    let grows = |file: &String| file != "-" && !file.ends_with(".gz");
+    let fits = files.len() == 1 && grows(&files[0]) && part == (None, None);
+    if follow && !fits {
         return Err(
             "--follow goes with one FILE that is still being written, and without --from and --to"
                 .to_string(),

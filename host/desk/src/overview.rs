@@ -8,12 +8,51 @@ use crate::words::{grouped, NUMERALS, REFUSALS};
 use chuldariin_log::record::contact_word;
 use std::io::{self, Write};
 
+/// The fields of a row, in their order.
+pub const FIELDS: [&str; 35] = [
+    "file",
+    "error",
+    "begins",
+    "calls",
+    "refused",
+    "refusals",
+    "closings",
+    "openings",
+    "opened_i",
+    "opened_ii",
+    "opened_iii",
+    "opened_iv",
+    "opened_v",
+    "opened_begin",
+    "opened_trouble",
+    "span",
+    "closed",
+    "spacing",
+    "spacing_pause",
+    "silences",
+    "silence_longest",
+    "told",
+    "told_differ",
+    "contact_moved",
+    "welded",
+    "welded_longest",
+    "not_closing",
+    "not_closing_longest",
+    "from_wall",
+    "to_wall",
+    "end",
+    "end_refused",
+    "bad_lines",
+    "before_begin",
+    "cut",
+];
+
 /// Writes one row a log.
 pub fn print(logs: &[Replayed], format: Format, out: &mut impl Write) -> io::Result<()> {
     if format == Format::Text {
         return text(logs, out);
     }
-    let mut rows = Rows::new(format, true);
+    let mut rows = Rows::new(format, &FIELDS, true);
     for log in logs {
         rows.field("file", Value::Text(&log.name));
         let error = log
@@ -103,6 +142,8 @@ fn ends(rows: &mut Rows, whole: Option<&Whole>) {
     rows.field("end_refused", number(|log| log.summary.refused_now));
     rows.field("bad_lines", number(|log| log.damage.bad_lines()));
     rows.field("before_begin", number(|log| log.damage.before_begin));
+    let cut = whole.and_then(|log| log.damage.cut.as_deref());
+    rows.field("cut", Value::text(cut.unwrap_or("")));
 }
 
 /// Each number with its count: `2:1 13:3`.
@@ -155,7 +196,7 @@ fn text(logs: &[Replayed], out: &mut impl Write) -> io::Result<()> {
     for (log, row) in logs.iter().zip(&cells) {
         let row: Vec<&str> = row.iter().map(String::as_str).collect();
         match &log.whole {
-            Ok(_) => writeln!(out, "{}  {}", line(&row), log.name)?,
+            Ok(whole) => writeln!(out, "{}  {}{}", line(&row), log.name, remark(whole))?,
             Err(error) => {
                 let first = error.to_string();
                 let first = first.lines().next().unwrap_or("").to_string();
@@ -164,6 +205,18 @@ fn text(logs: &[Replayed], out: &mut impl Write) -> io::Result<()> {
         }
     }
     Ok(())
+}
+
+/// What the numbers of a row do not tell.
+fn remark(whole: &Whole) -> &'static str {
+    let damage = &whole.damage;
+    let is_left_out = damage.bad_lines() + damage.before_begin > 0;
+    match whole.summary.lists {
+        0 => " (no begin was accepted)",
+        _ if damage.cut.is_some() => " (not read to its end)",
+        _ if is_left_out => " (lines left out)",
+        _ => "",
+    }
 }
 
 fn cells(log: &Replayed) -> Vec<String> {

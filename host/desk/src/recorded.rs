@@ -16,7 +16,15 @@ pub struct Difference {
 
 impl Difference {
     pub fn words(&self) -> String {
-        format!("{} {}, commanded {}", self.part, self.told, self.commanded)
+        let apart = if self.part.starts_with("line") {
+            ":"
+        } else {
+            ""
+        };
+        format!(
+            "{}{apart} {}, commanded {}",
+            self.part, self.told, self.commanded
+        )
     }
 }
 

@@ -10,7 +10,7 @@ use crate::lists::{Ask, Lists, Moment};
 use crate::paint::Paint;
 use crate::progress::Progress;
 use crate::recorded::Difference;
-use crate::rows::row;
+use crate::rows::{row, FIELDS};
 use crate::source::Input;
 use crate::summary::Summary;
 use crate::table::{record_words, Table};
@@ -174,8 +174,9 @@ struct Replay<'a> {
     case: Case,
     summary: Summary,
     since: Since,
-    /// The greatest time so far, of the present list.
-    now: Moment,
+    /// The line before lies in the part that is shown, and some line did.
+    inside: bool,
+    shown: bool,
 }
 
 impl<'a> Replay<'a> {
@@ -187,12 +188,13 @@ impl<'a> Replay<'a> {
             ends,
             printer: match show.format {
                 Format::Text => Printer::Table(Box::new(Table::new(shape, show.paint, show.width))),
-                format => Printer::Rows(Rows::new(format, show.headed)),
+                format => Printer::Rows(Rows::new(format, &FIELDS, show.headed)),
             },
             case: Case::default(),
             summary: Summary::default(),
             since: Since::default(),
-            now: Moment { list: 0, time: 0 },
+            inside: !ends.is_part(),
+            shown: false,
         }
     }
 
@@ -215,14 +217,15 @@ impl<'a> Replay<'a> {
         let seen = self.case.see(entry)?;
         self.summary.see(&seen);
         let notes = self.since.notes(&seen);
-        // A record, or a call whose time is refused, stands where it was made.
-        if let What::Call(turn) = &seen.what {
-            let time = turn.credible_time();
-            self.now = time.map_or(self.now, |_| self.now.max(seen.moment));
-        }
+        // A line without a time stands where the line before it does.
+        self.inside = match seen.what {
+            What::Call(_) | What::Contact(_) | What::Panel(_) => self.ends.has(seen.moment),
+            _ => self.inside,
+        };
         let changed = self.only == Only::All || self.since.changed(&seen, &notes);
-        if changed && self.ends.has(self.now) {
+        if changed && self.inside {
             self.print(entry, &seen, &notes, out)?;
+            self.shown = true;
         }
         self.since.see(&seen);
         Ok(())
@@ -265,7 +268,13 @@ impl<'a> Replay<'a> {
     /// The log is over.
     fn end(mut self, damage: &Damage, out: &mut impl Write) -> Result<(), Box<dyn Error>> {
         self.summary.finish(&self.case);
+        if let Printer::Rows(rows) = &mut self.printer {
+            rows.start(out)?;
+        }
         if let Printer::Table(_) = self.printer {
+            if !self.shown {
+                writeln!(out, "no line of the log lies there")?;
+            }
             let totals = Totals {
                 summary: &self.summary,
                 lists: &self.case.lists,
@@ -277,6 +286,9 @@ impl<'a> Replay<'a> {
         Ok(())
     }
 }
+
+/// A record that is further ahead of the calls may be of another clock, ms.
+const AHEAD: u64 = 10_000;
 
 /// What the next call is compared with.
 #[derive(Default)]
@@ -301,6 +313,12 @@ impl Since {
             }
             _ => Vec::new(),
         };
+        if seen.ahead > AHEAD {
+            let ahead = grouped(seen.ahead);
+            let words =
+                format!("its time is {ahead} ms after the last call's: is it of another clock?");
+            said.push(note(Kind::Warned, words));
+        }
         if let What::Call(turn) = &seen.what {
             if turn.accepted() && self.refused > 1 {
                 let words = format!("accepted again, after {} refused", grouped(self.refused));

@@ -15,6 +15,42 @@ use chuldariin_log::record::{contact_word, state_word};
 use chuldariin_log::{Entry, Line, Window};
 use std::io::{self, Write};
 
+/// The fields of a row, in their order.
+pub const FIELDS: [&str; 32] = [
+    "file",
+    "line",
+    "list",
+    "time",
+    "wall",
+    "what",
+    "text",
+    "refusal",
+    "state",
+    "wave",
+    "announced",
+    "contactor",
+    "fault",
+    "faults",
+    "closings",
+    "line1",
+    "line2",
+    "line3",
+    "grant",
+    "high",
+    "low",
+    "band",
+    "verdict",
+    "event",
+    "causes",
+    "unsound",
+    "silence",
+    "differences",
+    "contact",
+    "contact_fails",
+    "contact_ms",
+    "notes",
+];
+
 /// Writes a call or a record. A comment is none.
 pub fn row(
     rows: &mut Rows,

@@ -130,6 +130,15 @@ pub fn stop(turn: &Turn) -> Option<String> {
     }
 }
 
+/// A stop that runs with the contactor closed, and when it opens.
+pub fn stop_runs(turn: &Turn) -> Option<String> {
+    let start = turn.after.stop.filter(|_| turn.reply.closed)?;
+    Some(format!(
+        "A stop runs since {start}: {}.",
+        until(turn, start)
+    ))
+}
+
 /// Why the wave is steady, and when that opens.
 fn until(turn: &Turn, start: u64) -> String {
     format!(

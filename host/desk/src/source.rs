@@ -88,6 +88,8 @@ pub fn is_packed(name: &str) -> bool {
 struct Unpacked {
     gzip: Child,
     out: ChildStdout,
+    /// What it said at its end, if it was not content.
+    failed: Option<String>,
 }
 
 impl Unpacked {
@@ -103,26 +105,26 @@ impl Unpacked {
         })?;
         let out = gzip.stdout.take();
         let out = out.ok_or_else(|| io::Error::other("gzip has no output"))?;
-        Ok(Unpacked { gzip, out })
+        Ok(Unpacked {
+            gzip,
+            out,
+            failed: None,
+        })
     }
 
-    /// All was read: is gzip content with it?
+    /// All was read: is gzip content with it? It is asked once, and the answer stays.
     fn end(&mut self) -> io::Result<()> {
         let mut said = String::new();
-        if let Some(stderr) = &mut self.gzip.stderr {
+        if let Some(mut stderr) = self.gzip.stderr.take() {
             stderr.read_to_string(&mut said)?;
         }
-        match self.gzip.wait()?.success() {
-            true => Ok(()),
-            false => {
-                let said = said.lines().find(|line| !line.trim().is_empty());
-                let said = said.unwrap_or("it failed").trim();
-                Err(io::Error::new(
-                    io::ErrorKind::InvalidData,
-                    format!("gzip says: {said}"),
-                ))
-            }
+        if !self.gzip.wait()?.success() {
+            let line = said.lines().find(|line| !line.trim().is_empty());
+            let line = line.unwrap_or("it failed").trim().to_string();
+            self.failed.get_or_insert(line);
         }
+        let error = |said| io::Error::new(io::ErrorKind::InvalidData, format!("gzip says: {said}"));
+        self.failed.as_ref().map_or(Ok(()), |said| Err(error(said)))
     }
 }
 

@@ -273,7 +273,8 @@ impl Table {
     fn end(&mut self, out: &mut impl Write, notes: &[Note]) -> io::Result<()> {
         let columns = self.columns.width();
         let place = Place::behind(columns + 2, self.width);
-        let row = match columns > self.width.unwrap_or(usize::MAX) {
+        // A panel may say more than its column has room for.
+        let row = match visible(&self.row) > self.width.unwrap_or(usize::MAX) {
             true => cut(&self.row, self.width),
             false => &self.row,
         };

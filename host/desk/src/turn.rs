@@ -89,6 +89,8 @@ pub struct Turn<'a> {
     pub reply: raw::Reply,
     /// Had a begin been accepted before the call?
     pub begun: bool,
+    /// The greatest time of the list before the call, but for times that were refused themselves.
+    pub latest: u64,
     /// What the archive's controller held before and after the call.
     pub before: State,
     pub after: State,
@@ -126,7 +128,7 @@ impl Turn<'_> {
 
     /// An accepted begin whose clock is that of the list before it.
     pub fn clock_runs_on(&self) -> bool {
-        self.begun && self.begins() && self.after.last >= self.before.last
+        self.begun && self.begins() && self.after.last >= self.latest
     }
 
     /// A refused begin comes alone, and before the first begin nothing is commanded.
@@ -218,6 +220,7 @@ pub struct Post {
     archive: Archive,
     state: State,
     begun: bool,
+    latest: u64,
     list: u32,
     previous: Result<Sample, Forgotten>,
     overrun: Option<Overrun>,
@@ -235,6 +238,7 @@ impl Default for Post {
             state: meaning(&raw::Controller::ZEROED),
             archive: Archive::default(),
             begun: false,
+            latest: 0,
             list: 0,
             previous: Err(Forgotten::Never),
             overrun: None,
@@ -276,6 +280,7 @@ impl Post {
             call,
             reply,
             begun: self.begun,
+            latest: self.latest,
             before,
             after,
             outcome,
@@ -299,8 +304,11 @@ impl Post {
             return None;
         }
         let from = turn.before.last;
-        // A clock that starts anew tells nothing of the time between.
-        let time = turn.credible_time().unwrap_or(from);
+        // A clock that starts anew tells nothing of the time between two lists.
+        let time = match turn.begins() && !turn.clock_runs_on() {
+            true => turn.latest,
+            false => turn.credible_time().unwrap_or(from),
+        };
         let by_clock = time.saturating_sub(from);
         Some(Silence {
             from,
@@ -353,6 +361,10 @@ impl Post {
         turn.silence = turn.unjudged.filter(|unjudged| self.is_told(unjudged));
         self.overrun = turn.overrun_after();
         self.begun |= turn.begins();
+        self.latest = match turn.begins() {
+            true => turn.after.last,
+            false => self.latest.max(turn.credible_time().unwrap_or(0)),
+        };
         if turn.accepted() {
             self.keep_previous(turn);
         }

@@ -1,19 +1,18 @@
 //! The command `why`: which closing conditions hold at a moment, and which do not.
 
-use crate::case::{Case, What};
+use crate::case::{is_time, Case, Seen, Watched, What};
 use crate::causes::{closed, notes, silent, Kind};
 use crate::conditions::{conditions, waits_for};
-use crate::contact::Failing;
 use crate::grant;
 use crate::input::{Log, Taken};
 use crate::lists::{Ask, Lists, Moment};
 use crate::paint::{Colour, Paint};
-use crate::running::fault_2_due;
+use crate::running::{fault_2_due, stop_runs};
 use crate::table::safe;
 use crate::turn::{Silence, Turn};
 use crate::words::{call, grouped, lines, wave};
 use chuldariin_log::record::{contact_word, state_word};
-use chuldariin_log::{Call, Entry, Line};
+use chuldariin_log::{Call, Entry, Line, Record};
 use std::error::Error;
 use std::fmt;
 use std::io::{self, Write};
@@ -88,9 +87,6 @@ struct Found {
     /// The very call that was asked for, and the line up to which what follows it is part of the answer.
     asked: Option<Kept>,
     until: usize,
-    contact: Option<(bool, u64)>,
-    failing: Option<Failing>,
-    panel: Option<(u64, String)>,
 }
 
 impl Found {
@@ -123,20 +119,13 @@ impl Found {
         self.refused = later.refused.clone();
         self.until = later.until;
     }
-
-    /// What the post recorded by then; up to the moment that is asked for a contact may have failed.
-    fn recorded(&mut self, case: &Case, moment: Option<Moment>) {
-        let mut contact = case.contact().clone();
-        contact.at(moment.map_or(0, |moment| moment.time));
-        self.contact = contact.reported();
-        self.failing = contact.is_failing();
-        self.panel = case.panel().cloned();
-    }
 }
 
 /// The answer, and where else the clock passed the time that was asked for.
 struct Answer {
     found: Found,
+    /// What the post recorded by then.
+    watched: Watched,
     /// Calls after which the clock stood before that time, and behind it at the next call.
     others: Vec<(usize, u64)>,
     lists: Lists,
@@ -148,11 +137,12 @@ pub fn why(log: &Log, at: At, paint: Paint, out: &mut impl Write) -> Result<(), 
         At::Line(_) => None,
         At::Moment(ask) => Some(crate::replay::lists_of(log)?.find_named("--at", ask)?),
     };
-    let answer = match (moment, at) {
-        (Some(moment), _) => find(log, |turn| by_time(turn, moment), Some(moment))?,
-        (None, At::Line(line)) => find(log, |turn| (turn.line <= line).then_some(0), None)?,
+    let until = match (moment, at) {
+        (Some(moment), _) => Until::Moment(moment),
+        (None, At::Line(line)) => Until::Line(line),
         (None, At::Moment(_)) => unreachable!("a moment is found or refused"),
     };
+    let answer = find(log, until)?;
     let Some(last) = answer.found.last.clone() else {
         let line = if let At::Line(line) = at { line } else { 0 };
         return Err(TooEarly {
@@ -170,75 +160,123 @@ pub fn why(log: &Log, at: At, paint: Paint, out: &mut impl Write) -> Result<(), 
     told.print(paint, out)
 }
 
-/// How near a call is to a moment: its own time, if that is not after it.
-fn by_time(turn: &Turn, moment: Moment) -> Option<u64> {
-    let time = turn.call.time();
-    (turn.list == moment.list && time <= moment.time).then_some(time)
+/// Up to where a log counts.
+#[derive(Clone, Copy)]
+enum Until {
+    Moment(Moment),
+    Line(usize),
+}
+
+impl Until {
+    /// How near a call is: its own time, if that is not after the moment; of lines the last.
+    fn rank(self, turn: &Turn) -> Option<u64> {
+        let time = turn.call.time();
+        match self {
+            Until::Moment(moment) => {
+                (turn.list == moment.list && time <= moment.time).then_some(time)
+            }
+            Until::Line(line) => (turn.line <= line).then_some(0),
+        }
+    }
+
+    /// Does a line count for what was recorded?
+    fn has(self, line: usize, own: Moment) -> bool {
+        match self {
+            Until::Moment(moment) => own <= moment,
+            Until::Line(last) => line <= last,
+        }
+    }
+
+    fn moment(self) -> Option<Moment> {
+        match self {
+            Until::Moment(moment) => Some(moment),
+            Until::Line(_) => None,
+        }
+    }
 }
 
 /// The call that ranks highest, of equal ones the last, and all that is known after it.
-fn find(
-    log: &Log,
-    rank: impl Fn(&Turn) -> Option<u64>,
-    moment: Option<Moment>,
-) -> Result<Answer, Box<dyn Error>> {
+fn find(log: &Log, until: Until) -> Result<Answer, Box<dyn Error>> {
     let mut case = Case::default();
-    let mut search = Search {
-        moment,
-        ..Search::default()
-    };
+    let mut search = Search::new(until);
     let mut lines = log.lines()?;
     while let Some(taken) = lines.next().map_err(|unfit| unfit.of(log.name()))? {
         let Taken::Entry(entry) = taken else { continue };
         let entry = Rc::new(entry);
         let seen = case.see(&entry)?;
-        match &seen.what {
-            What::Call(turn) => search.call(&entry, turn, rank(turn), &case),
-            _ => search.record(seen.moment, &case),
+        match (&seen.what, &entry.what) {
+            (What::Call(turn), _) => search.call(&entry, turn),
+            (_, Line::Record(record)) => search.record(record, &seen),
+            _ => {}
         }
     }
     Ok(search.answer(case))
 }
 
 /// What was found up to a line, and of it what counts for the answer.
-#[derive(Default)]
 struct Search {
-    moment: Option<Moment>,
+    until: Until,
     found: Found,
     best: Option<u64>,
     kept: Found,
+    watched: Watched,
     /// The answer's call was the last one, but for strays.
     goes_on: bool,
     passed: Passed,
 }
 
 impl Search {
-    fn call(&mut self, entry: &Rc<Entry>, turn: &Turn, rank: Option<u64>, case: &Case) {
+    fn new(until: Until) -> Search {
+        Search {
+            until,
+            found: Found::default(),
+            best: None,
+            kept: Found::default(),
+            watched: Watched::default(),
+            goes_on: false,
+            passed: Passed::default(),
+        }
+    }
+
+    fn call(&mut self, entry: &Rc<Entry>, turn: &Turn) {
+        let own = Moment {
+            list: turn.list,
+            time: turn.call.time(),
+        };
+        if self.until.has(turn.line, own) {
+            self.watched.called(turn);
+        }
+        let (moment, rank) = (self.until.moment(), self.until.rank(turn));
         self.found.see(entry, turn);
-        self.passed.see(turn, self.moment);
-        self.goes_on = self.goes_on && is_stray(turn, self.moment);
+        self.passed.see(turn, moment);
+        self.goes_on = self.goes_on && is_stray(turn, moment);
         if rank.is_some() && rank >= self.best {
             (self.best, self.goes_on) = (rank, true);
             self.kept = self.found.clone();
-            self.kept.recorded(case, self.moment);
         } else if self.goes_on {
             self.kept.goes_on(&self.found);
         }
     }
 
-    fn record(&mut self, at: Moment, case: &Case) {
-        if self.best.is_some() && self.moment.is_none_or(|moment| at <= moment) {
-            self.kept.recorded(case, self.moment);
+    fn record(&mut self, record: &Record, seen: &Seen) {
+        let counts = seen.moment.list > 0 && is_time(record);
+        if counts && self.until.has(seen.line, seen.moment) {
+            self.watched.recorded(record);
         }
     }
 
-    fn answer(self, case: Case) -> Answer {
+    fn answer(mut self, case: Case) -> Answer {
+        // Up to the moment that is asked for a contact may have failed.
+        if let Until::Moment(moment) = self.until {
+            self.watched.contact.at(moment.time);
+        }
         let (kept, mut others) = (self.kept, self.passed.others);
         let asked = kept.asked.as_ref().map_or(0, |asked| asked.entry.line);
         let own = asked..=kept.until;
         others.retain(|other| !own.contains(&other.0));
         Answer {
             found: kept,
+            watched: self.watched,
             others,
             lists: case.lists,
         }
@@ -247,12 +285,8 @@ impl Search {
 
 /// A call whose time is refused, and that does not name a later moment.
 fn is_stray(turn: &Turn, moment: Option<Moment>) -> bool {
-    let is_later = moment.is_some_and(|moment| turn.call.time() > moment.time);
-    match turn.reply.refusal {
-        3 => true,
-        2 => !is_later,
-        _ => false,
-    }
+    let is_later = moment.is_none_or(|moment| turn.call.time() > moment.time);
+    turn.credible_time().is_none() && !is_later
 }
 
 /// So many other moments are told.
@@ -363,9 +397,13 @@ impl Told<'_> {
     fn clock(&self, out: &mut impl Write) -> io::Result<()> {
         let asked = self.answer.found.asked.as_ref().map(Kept::turn);
         if let Some(asked) = asked.filter(|asked| asked.credible_time().is_none()) {
+            let nearest = match self.at {
+                At::Line(_) => "The call in",
+                At::Moment(_) => "The call nearest to that time,",
+            };
             writeln!(
                 out,
-                "The call nearest to that time, line {} at {}, was refused for its own time: by the log's order it came after line {}, at {}.",
+                "{nearest} line {}, at {}, was refused for its own time: by the log's order it came after line {}, at {}.",
                 asked.line,
                 asked.call.time(),
                 self.last.line,
@@ -378,8 +416,13 @@ impl Told<'_> {
         Ok(())
     }
 
-    /// A moment past the end of its list.
+    /// A moment past the end of its list, or a line past that of the log.
     fn end(&self, out: &mut impl Write) -> io::Result<()> {
+        let lists = &self.answer.lists;
+        let last = lists.get(lists.count()).map_or(0, |list| list.last_line);
+        if matches!(self.at, At::Line(line) if line > last) {
+            return writeln!(out, "The log's last call is line {last}.");
+        }
         let list = self.moment.and_then(|moment| {
             let list = self.answer.lists.get(moment.list)?;
             let is_past = moment.time > list.end && asked_is_credible(&self.answer.found);
@@ -388,7 +431,7 @@ impl Told<'_> {
         let Some((number, list)) = list else {
             return Ok(());
         };
-        let (end, line) = (self.shown(list.end), list.last_line);
+        let (end, line) = (self.shown(list.end), list.end_line);
         match self.answer.lists.get(number + 1) {
             None => writeln!(
                 out,
@@ -422,16 +465,17 @@ impl Told<'_> {
 
     /// What the post recorded.
     fn recorded(&self, paint: Paint, out: &mut impl Write) -> io::Result<()> {
-        let found = &self.answer.found;
+        let watched = &self.answer.watched;
         let mut words = Vec::new();
-        if let Some((closed, since)) = found.contact {
+        let reported = watched.contact.reported();
+        if let Some((closed, since)) = reported {
             words.push(format!(
                 "contact {} since {}",
                 contact_word(closed),
                 self.shown(since)
             ));
         }
-        if let Some((since, text)) = &found.panel {
+        if let Some((since, text)) = &watched.panel {
             words.push(format!(
                 "panel \"{}\" since {}",
                 safe(text),
@@ -441,13 +485,13 @@ impl Told<'_> {
         if !words.is_empty() {
             writeln!(out, "recorded: {}", words.join(", "))?;
         }
-        if let Some(failing) = found.failing {
+        if let Some(failing) = watched.contact.is_failing() {
             let command = failing.fails.command();
             let words = format!(
                 "The contact is {}: {} since {}, commanded {command} since {}.",
                 failing.fails.words(),
                 failing.fails.state(),
-                failing.from,
+                reported.map_or(failing.from, |reported| reported.1),
                 failing.command
             );
             writeln!(out, "{}", paint.colour(Colour::Red, &words))?;
@@ -460,6 +504,9 @@ impl Told<'_> {
         writeln!(out, "The contactor is closed since line {line}, at {time}.")?;
         writeln!(out, "{}", closed(closing))?;
         running(&self.last, out)?;
+        if let Some(stop) = stop_runs(&self.last) {
+            writeln!(out, "{stop}")?;
+        }
         let silence = self.silence();
         if silence.is_long() {
             let words = silent(&silence);
@@ -499,7 +546,7 @@ impl Told<'_> {
             let words = words_of(&opening, Kind::Opened);
             writeln!(out, "{words}; line {line}, at {time}\n")?;
         }
-        for condition in conditions(&self.last) {
+        for condition in conditions(&self.last, self.now()) {
             let holds = match condition.holds {
                 true => paint.colour(Colour::Green, "yes"),
                 false => paint.colour(Colour::Red, "no "),

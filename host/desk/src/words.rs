@@ -5,7 +5,7 @@ use crate::grant;
 use crate::latched::Latched;
 use crate::turn::Turn;
 use chuldariin::{reading, Reading};
-use chuldariin_log::{Call, Room, Window};
+use chuldariin_log::{Call, Room, Wall, Window};
 use chuldariin_model::{Band, State, ENOUGH, LEAST_CURRENT, LONGEST, NEAR, READING_END, SHORTEST};
 
 /// Each fault in words, by its number less 1.
@@ -234,7 +234,11 @@ fn too_late(time: u64) -> String {
     ];
     let since_1970 = units.iter().find(|unit| EPOCH.contains(&(time / unit.0)));
     let advice = match since_1970 {
-        Some((_, unit)) => format!("it looks like {unit} since 1970: "),
+        Some((parts, unit)) => {
+            let date = i64::try_from(time / parts).ok().and_then(Wall::utc);
+            let date = date.map_or(String::new(), |date| format!(" ({date})"));
+            format!("it looks like {unit} since 1970{date}: ")
+        }
         None => String::new(),
     };
     format!(

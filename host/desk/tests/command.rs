@@ -251,7 +251,7 @@ fn a_refused_call_is_no_answer_to_why() {
         "{answer}"
     );
     assert!(
-        answer.contains("line 6 at 30, was refused for its own time")
+        answer.contains("line 6, at 30, was refused for its own time")
             && answer.contains("passed that time once more, after line 4, at 26"),
         "{answer}"
     );
@@ -503,7 +503,7 @@ fn a_picture_is_never_written_over_its_log() {
     let nothing = run(&["plot", "-", "-o", "-"], b"begin 0 1 0 no\n");
     wrong(
         &nothing,
-        "no call of the log was accepted: there is nothing to draw",
+        "there is nothing to draw: no call of the log is accepted: nothing has begun; line 1 is refused by 1: rated 1 mA is not 6,000 to 80,000",
     );
 }
 
@@ -547,4 +547,61 @@ fn closings_across_begins() {
     // A clock that starts anew tells nothing of the time between, also if it soon is where it was.
     assert_eq!(across(&[100, 130]), None);
     assert_eq!(across(&[1_000, 0]), None);
+}
+
+#[test]
+fn words_of_the_command_line() {
+    let log = file("-x.log", CHARGE.as_bytes());
+    let mut tool = tool();
+    tool.args(["replay", "--only=changes", "--", "-x.log"]);
+    let output = tool.current_dir(log.parent().expect("a folder")).output();
+    let output = output.expect("the tool ends");
+    assert_eq!(output.status.code(), Some(0), "{}", text(&output.stderr));
+    assert_eq!(
+        text(&output.stdout),
+        text(&run(&["replay", "-", "--only", "changes"], CHARGE.as_bytes()).stdout)
+    );
+    let version = text(&run(&["--version"], b"").stdout);
+    assert_eq!(
+        version,
+        format!("chuldariin {}\n", env!("CARGO_PKG_VERSION"))
+    );
+    for words in [
+        &["replay", "a", "--skip-bad=yes"][..],
+        &["replay", "a", "--only=changes", "--only=changes"],
+        &["replay", "a", "--only="],
+        &["replay", "--", "--help"],
+        &["demo", ""],
+        &["summary"],
+        &["plot", "a", "-o", "a.svg", "--from", "2:5", "--to", "1:9"],
+        &[
+            "plot",
+            "a",
+            "-o",
+            "a.svg",
+            "--from",
+            "2026-11-16T03:40:01Z",
+            "--to",
+            "2026-11-16T03:40:00Z",
+        ],
+    ] {
+        assert_eq!(run(words, b"").status.code(), Some(2), "{words:?}");
+    }
+    // From and to may be one moment.
+    let output = run_file(
+        &["replay", "-", "--from", "40", "--to", "40"],
+        CHARGE.as_bytes(),
+    );
+    assert_eq!(output.status.code(), Some(0));
+}
+
+/// Two logs that were joined, each with the mark of its editor.
+#[test]
+fn a_mark_in_the_middle() {
+    let marked = format!("\u{feff}{CHARGE}\u{feff}{CHARGE}");
+    let shown = text(&replay(marked.as_bytes()).stdout);
+    assert!(
+        shown.contains("12 accepted, 0 refused, in 2 lists"),
+        "{shown}"
+    );
 }

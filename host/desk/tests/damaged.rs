@@ -42,7 +42,7 @@ fn bad_lines_are_left_out_named_and_counted() {
         "{said}"
     );
     assert!(
-        said.contains("2 lines before the first begin are left out"),
+        said.contains("2 lines before the first begin left out"),
         "{said}"
     );
 }
@@ -54,8 +54,16 @@ fn why_and_plot_and_summary_take_them_too() {
     line(&why, "The contactor is closed since line 8, at 40.");
     let svg = text(&skipped(&["plot", "-", "-o", "-"], log.as_bytes()).stdout);
     assert!(svg.contains("<svg") && svg.ends_with("</svg>\n"));
-    let row = text(&skipped(&["summary", "-", "--format", "json"], log.as_bytes()).stdout);
-    assert!(row.contains("\"bad_lines\":2,\"before_begin\":2"), "{row}");
+    let output = skipped(&["summary", "-", "--format", "json"], log.as_bytes());
+    let row = text(&output.stdout);
+    assert!(
+        row.contains("\"bad_lines\":2,\"before_begin\":2,\"cut\":null"),
+        "{row}"
+    );
+    let said = text(&output.stderr);
+    assert!(said.contains("\n  line 9: HIGH"), "{said}");
+    let table = text(&skipped(&["summary", "-"], log.as_bytes()).stdout);
+    assert!(table.ends_with("/log (lines left out)\n"), "{table}");
 }
 
 #[test]

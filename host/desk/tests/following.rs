@@ -134,6 +134,7 @@ fn what_can_not_be_followed() {
         &["replay", "--follow", "a", "--from", "5"],
         &["replay", "--follow", "a.gz"],
         &["replay", "--follow=yes", "a"],
+        &["replay", "--follow", "-"],
     ] {
         assert_eq!(run(words, b"").status.code(), Some(2), "{words:?}");
     }
@@ -168,4 +169,36 @@ fn a_stream_tells_what_a_file_does() {
     let log = format!("{CHARGE}tick 121\n# on\nlimit 130 80001\n");
     let stream = text(&run(&["replay", "-"], log.as_bytes()).stdout);
     assert_eq!(stream, answer(&["replay", "-"], &log));
+}
+
+/// Another file under the same name is another log.
+#[test]
+fn a_log_that_is_replaced_is_followed_no_further() {
+    let path = file("replaced.log", CHARGE.as_bytes());
+    let mut command = tool();
+    command
+        .args(["replay", "--follow", name(&path)])
+        .stderr(Stdio::null());
+    let mut printed = Printed::by(command);
+    printed.line_with(">> CLOSED");
+    let new = path.with_extension("new");
+    fs::write(&new, format!("{CHARGE}tick 121\ntick 500\n")).expect("a file");
+    fs::rename(&new, &path).expect("its name");
+    printed.line_with("end       contactor closed");
+    assert!(printed.child.wait().expect("the tool ends").success());
+}
+
+/// A part of what comes through a pipe is known when all of it is there.
+#[test]
+fn a_part_of_a_stream() {
+    let log = format!("{CHARGE}begin 0 32000 0 no\ntick 50\n");
+    let output = run(
+        &["replay", "-", "--from", "2:0", "--to", "2:50"],
+        log.as_bytes(),
+    );
+    let shown = text(&output.stdout);
+    assert!(
+        shown.contains("\n   7    2:0  begin") && !shown.contains("\n   6 "),
+        "{shown}"
+    );
 }

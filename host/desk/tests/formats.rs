@@ -7,7 +7,7 @@ mod tool;
 
 /// The fields of a replay's row, in their order. Programs rely on them: only add behind the last.
 const REPLAY: &str = "file,line,list,time,wall,what,text,refusal,state,wave,announced,contactor,fault,faults,closings,line1,line2,line3,grant,high,low,band,verdict,event,causes,unsound,silence,differences,contact,contact_fails,contact_ms,notes";
-const SUMMARY: &str = "file,error,begins,calls,refused,refusals,closings,openings,opened_i,opened_ii,opened_iii,opened_iv,opened_v,opened_begin,opened_trouble,span,closed,spacing,spacing_pause,silences,silence_longest,told,told_differ,contact_moved,welded,welded_longest,not_closing,not_closing_longest,from_wall,to_wall,end,end_refused,bad_lines,before_begin";
+const SUMMARY: &str = "file,error,begins,calls,refused,refusals,closings,openings,opened_i,opened_ii,opened_iii,opened_iv,opened_v,opened_begin,opened_trouble,span,closed,spacing,spacing_pause,silences,silence_longest,told,told_differ,contact_moved,welded,welded_longest,not_closing,not_closing_longest,from_wall,to_wall,end,end_refused,bad_lines,before_begin,cut";
 
 /// A log with all kinds of lines.
 fn log() -> String {
@@ -110,7 +110,7 @@ fn rows_of_csv() {
         (
             "8",
             "differences",
-            "contactor open, commanded closed; line 1 7 mA, commanded 0 mA",
+            "contactor open, commanded closed; line 1: 7 mA, commanded 0 mA",
         ),
         ("8", "contactor", ""),
         ("9", "what", "clock"),
@@ -269,5 +269,123 @@ fn a_format_that_is_none() {
         assert_eq!(output.status.code(), Some(2));
         assert!(text(&output.stderr)
             .starts_with("chuldariin: --format 'xml'; expected text, csv or json\n"));
+    }
+}
+
+/// Texts that JSON and CSV have to escape.
+#[test]
+fn awkward_texts() {
+    let log = format!(
+        "{CHARGE}panel 50 a\\b \u{1b}[2J\tc\npanel 60 say \"go\"\npanel 70 no quotes, two words\n"
+    );
+    let shown = answer(&["replay", "-", "--format", "json"], &log);
+    assert!(
+        shown.contains("\"text\":\"panel 50 a\\\\b \\u001b[2J\\tc\""),
+        "{shown}"
+    );
+    assert!(
+        shown.contains("\"text\":\"panel 60 say \\\"go\\\"\""),
+        "{shown}"
+    );
+    shown
+        .lines()
+        .for_each(|line| assert_eq!(json(line).len(), 32));
+    let shown = answer(&["replay", "-", "--format", "csv"], &log);
+    assert!(shown.contains(",\"panel 60 say \"\"go\"\"\","), "{shown}");
+    assert!(
+        shown.contains(",\"panel 70 no quotes, two words\","),
+        "{shown}"
+    );
+}
+
+/// A heading stands above no row, too, and once above several logs.
+#[test]
+fn the_heading_is_always_there() {
+    let (one, two) = (
+        tool::file("one.log", CHARGE.as_bytes()),
+        tool::file("two.log", format!("{CHARGE}tick 100\n").as_bytes()),
+    );
+    let words = [
+        "replay",
+        tool::name(&one),
+        tool::name(&two),
+        "--format",
+        "csv",
+        "--from",
+        "45",
+    ];
+    let rows = csv(&text(&run(&words, b"").stdout));
+    assert_eq!(rows[0].join(","), REPLAY);
+    assert_eq!(rows.len(), 2);
+}
+
+/// Each number of a summary's row, on a log that tells them apart.
+#[test]
+fn every_number_of_a_row() {
+    let mut log = format!(
+        "tick 1\ntick 2\ntick 3\n{CHARGE}clock 40 2026-11-16T03:40:00Z\ncontact 45 closed\n"
+    );
+    log.push_str("told C2 533 closed 0 1\n");
+    let mut call = |text: &str| log.push_str(&format!("{text}\n"));
+    call("sample 50 9000 -12000");
+    call("told - - closed - -");
+    call("bad");
+    call("sample 60 9000 -12000");
+    // Open at 60; the contact stays closed until 400, and moves by itself at 2,000.
+    call("contact 400 open");
+    call("contact 2000 closed");
+    call("contact 2030 open");
+    for time in (3_000..3_100).step_by(20) {
+        call(&format!("sample {time} 6000 -12000"));
+    }
+    // Closed at 3,060; the contact follows at 3,300, so 240 late.
+    call("sample 3150 6000 -12000");
+    call("sample 3230 6000 -12000");
+    call("sample 3290 6000 -12000");
+    call("contact 3300 closed");
+    call("sample 3500 6000 -12000");
+    call("fault 3510 4");
+    call("limit 3520 80001");
+    call("contact 3530 open");
+    call("begin 5000 32000 0 no");
+    let output = run_file(
+        &["summary", "-", "--format", "csv", "--skip-bad"],
+        log.as_bytes(),
+    );
+    let rows = csv(&text(&output.stdout));
+    let value = |name: &str| {
+        let place = rows[0].iter().position(|field| field == name).expect(name);
+        rows[1][place].as_str()
+    };
+    for (name, expected) in [
+        ("begins", "2"),
+        ("closings", "2"),
+        ("openings", "2"),
+        ("opened_i", "1"),
+        ("opened_v", "1"),
+        ("opened_begin", "0"),
+        ("opened_trouble", "1"),
+        ("span", "3520"),
+        ("closed", "470"),
+        ("spacing", "3020"),
+        ("spacing_pause", "3000"),
+        ("silences", "1"),
+        ("silence_longest", "210"),
+        ("told", "2"),
+        ("told_differ", "0"),
+        ("contact_moved", "1"),
+        ("welded", "1"),
+        ("welded_longest", "340"),
+        ("not_closing", "1"),
+        ("not_closing_longest", "240"),
+        ("from_wall", ""),
+        ("to_wall", ""),
+        ("end", "open"),
+        ("end_refused", "0"),
+        ("bad_lines", "1"),
+        ("before_begin", "3"),
+        ("cut", ""),
+    ] {
+        assert_eq!(value(name), expected, "{name}");
     }
 }

@@ -20,11 +20,7 @@ fn logs() -> Vec<(&'static str, String)> {
             "worn.log",
             format!("{CHARGE}sample 50 7600 -12000\nsample 60 7600 -12000\n"),
         ),
-        (
-            "silent.log",
-            format!("{CHARGE}sample 400 6000 -12000\n")
-                .replace("sample 400 6000 -12000", "begin 400 32000 0 no"),
-        ),
+        ("silent.log", format!("{CHARGE}sample 400 6000 -12000\n")),
         ("refused.log", format!("{CHARGE}limit 50 80001\n")),
         (
             "usual.log",
@@ -201,7 +197,7 @@ fn gzip_that_is_not_there_or_not_content() {
         (Some(2), String::new())
     );
     assert!(
-        text(&output.stderr).contains("can't be read: gzip says: "),
+        text(&output.stderr).contains("not in gzip format"),
         "{}",
         text(&output.stderr)
     );
@@ -238,5 +234,53 @@ fn a_packed_log_that_was_cut() {
     line(
         &text(&output.stdout),
         "skipped   what follows: the log can't be read further: gzip says:",
+    );
+}
+
+/// Only a van that ends its charge or is unplugged is no trouble, and only if that is all.
+#[test]
+fn what_is_trouble() {
+    let trouble = |calls: &str| {
+        let log = file("a.log", format!("{CHARGE}{calls}").as_bytes());
+        let row = text(&summary(&[log], &["--format", "json"]).stdout);
+        let (_, rest) = row.split_once("\"opened_trouble\":").expect("a field");
+        rest.split(',').next().map(str::to_string)
+    };
+    for (calls, count) in [
+        ("sample 50 9000 -12000\nsample 60 9000 -12000\n", "0"),
+        ("sample 50 12000 -12000\nsample 60 12000 -12000\n", "0"),
+        ("sample 50 12000 -12000\nsample 60 9000 -12000\n", "1"),
+        // Back in B, and no sound sample for more than 80 ms.
+        ("sample 50 9000 -12000\nsample 125 9000 -12000\n", "1"),
+        ("tick 121\n", "1"),
+        ("begin 50 32000 0 no\n", "1"),
+    ] {
+        assert_eq!(trouble(calls).as_deref(), Some(count), "{calls}");
+    }
+}
+
+/// Equal logs stand by name.
+#[test]
+fn equal_trouble_is_sorted_by_name() {
+    let folder = file("b.log", CHARGE.as_bytes());
+    let other = folder.with_file_name("a.log");
+    std::fs::write(&other, CHARGE).expect("a log");
+    let shown = text(&summary(&[folder, other], &[]).stdout);
+    assert_eq!(order(&shown), ["a.log", "b.log"]);
+}
+
+/// A log that was packed and lost its ending says so.
+#[test]
+fn a_packed_log_by_another_name() {
+    let packed = gzip(&file("packed.log", CHARGE.as_bytes()));
+    let renamed = packed.with_extension("bin");
+    std::fs::rename(&packed, &renamed).expect("another name");
+    let output = run(&["replay", name(&renamed)], b"");
+    assert_eq!(output.status.code(), Some(2));
+    assert!(
+        text(&output.stderr)
+            .ends_with("the log is packed by gzip; expected a name that ends in .gz\n"),
+        "{}",
+        text(&output.stderr)
     );
 }

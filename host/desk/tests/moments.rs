@@ -87,6 +87,7 @@ fn moments_that_there_are_not() {
     );
     for word in [
         "0:5",
+        "03:45",
         "5:",
         ":5",
         "1:2:3",
@@ -151,11 +152,15 @@ fn a_part_of_a_replay() {
         shown.contains("\nsummary of the whole log\n  calls     13: 13 accepted"),
         "{shown}"
     );
-    // A call whose time is refused stands where it was made.
-    let stray = format!("{CHARGE}tick 5\ntick 50\n");
-    assert_eq!(
-        rows(&["replay", "-", "--from", "40", "--to", "45"], &stray),
-        ["6", "7"]
+    // A call whose time is refused is found by that time.
+    let stray = format!("{CHARGE}tick 5\n# on\ntick 50\n");
+    let part = |from, to| rows(&["replay", "-", "--from", from, "--to", to], &stray);
+    assert_eq!(part("40", "45"), ["6"]);
+    assert_eq!(part("5", "9"), ["7", "# on"]);
+    let nothing = answer(&["replay", "-", "--from", "41", "--to", "45"], &stray);
+    assert!(
+        nothing.starts_with("no line of the log lies there\n\nsummary of"),
+        "{nothing}"
     );
 }
 
@@ -257,4 +262,68 @@ fn a_date_that_is_none() {
     assert!(text(&output.stderr).starts_with(
         "chuldariin: --at '2026-02-30T00:00:00Z': month 2 of 2026 has 28 days; expected a date"
     ));
+}
+
+/// A clock that was set back shows a time twice, and one that was set ahead never shows some.
+#[test]
+fn a_wall_clock_that_was_set() {
+    let log = format!("{CHARGE}clock 40 2026-11-16T03:40:00Z\ntick 100\nclock 100 2026-11-16T03:40:00Z\ntick 150\nclock 200 2026-11-16T04:00:00Z\ntick 250\n");
+    let at = "2026-11-16T03:40:00.020Z";
+    let said = "--at 2026-11-16T03:40:00.020Z: 2026-11-16T03:40:00.020Z fits 2 moments; expected one of them: 1:60, 1:120";
+    wrong(&["why", "-", "--at", at], &log, said);
+    let at = "2026-11-16T03:50:00Z";
+    let said = "--at 2026-11-16T03:50:00.000Z: the wall's clock never showed that: it was set past it; expected a time of the post's clock";
+    wrong(&["why", "-", "--at", at], &log, said);
+    line(
+        &why(&log, "2026-11-16T04:00:00.050Z"),
+        "at 250 (2026-11-16T04:00:00.050Z)",
+    );
+    // A clock line that names an earlier time than the one before it counts from that one on.
+    let late =
+        format!("{CHARGE}clock 40 2026-11-16T03:40:00Z\nclock 20 2026-11-16T03:00:00Z\ntick 50\n");
+    let shown = answer(&["replay", "-"], &late);
+    assert!(
+        line(&shown, "9 ").contains("50  2026-11-16T03:00:00.030Z"),
+        "{shown}"
+    );
+    line(
+        &why(&late, "2026-11-16T03:00:00.030Z"),
+        "at 50 (2026-11-16T03:00:00.030Z)",
+    );
+}
+
+/// A time between two lists on one clock is of the first.
+#[test]
+fn between_two_lists() {
+    let log = format!("{CHARGE}begin 1000 32000 0 no\ntick 1010\n");
+    let answer = why(&log, "500");
+    line(
+        &answer,
+        "at 1:500: the last accepted call is line 6, sample 6,000 / -12,000 at 1:40, 460 ms before",
+    );
+    line(
+        &answer,
+        "List 1 ends at 1:40, in line 6; line 7 begins the next one.",
+    );
+    // The log says nothing of that time.
+    assert!(!answer.contains("No accepted call"), "{answer}");
+    line(
+        &why(&log, "1000"),
+        "at 2:1000: the last accepted call is line 7",
+    );
+    // A refused call is later than the next begin: that is another clock.
+    let anew = format!("{CHARGE}limit 5000 80001\nbegin 1000 32000 0 no\ntick 1010\n");
+    let said = "--at 1005: 1005 fits 2 lists; expected one of them: 1:1005, 2:1005";
+    wrong(&["why", "-", "--at", "1005"], &anew, said);
+}
+
+#[test]
+fn a_line_that_the_log_does_not_have() {
+    let answer = |line| text(&run_file(&["why", "-", "--line", line], CHARGE.as_bytes()).stdout);
+    line(
+        &answer("999"),
+        "at line 999: the last accepted call is line 6",
+    );
+    line(&answer("999"), "The log's last call is line 6.");
+    assert!(!answer("6").contains("The log's last call"));
 }

@@ -41,7 +41,7 @@ fn rare_calls() {
         ("measure 50 200001\n", "7 ", "REFUSED 7: a measured current is at most 200,000 mA; is the meter's unit milliamps?"),
         ("limit 50 80001\n", "7 ", "REFUSED 13: a limit is at most 80,000 mA, so 32,000 mA stays; is the load manager's unit milliamps?"),
         ("limit 39 80001\n", "7 ", "REFUSED 2: time 39 is before the last accepted call, at 40"),
-        ("limit 1000000000001 80001\n", "7 ", "REFUSED 3: the time is above 1,000,000,000,000 ms; it looks like milliseconds since 1970: count milliseconds from the post's start"),
+        ("limit 1000000000001 80001\n", "7 ", "REFUSED 3: the time is above 1,000,000,000,000 ms; it looks like milliseconds since 1970 (2001-09-09T01:46:40.001Z): count milliseconds from the post's start"),
         ("window 50 1 2\n", "7 ", "REFUSED 4: 2 readings, where 256 to 1,024 are allowed"),
     ] {
         ends_with(calls, start, note);

@@ -163,10 +163,10 @@ fn the_words_of_the_panel() {
 fn a_record_after_the_last_call() {
     let svg = picture(&format!("{CHARGE}tick 141\ncontact 500 closed\n"), WHOLE);
     assert!(svg.contains(", 0 to 500 ms:"), "{svg}");
-    // A time that no call can have does not stretch the axis.
+    // One that is far ahead may be of another clock, and stretches the axis by 10 s at most.
     let svg = picture(
         &format!("{CHARGE}panel 18446744073709551615 Hello\n"),
         WHOLE,
     );
-    assert!(svg.contains(", 0 to 1,000,000,000,000 ms:"), "{svg}");
+    assert!(svg.contains(", 0 to 10,040 ms:"), "{svg}");
 }

@@ -98,7 +98,7 @@ fn nothing_lies_before_the_log_or_after_it() {
     let nothing = drawn("begin 0 1 0 no\n", WHOLE);
     assert_eq!(
         nothing,
-        Err("no call of the log was accepted: there is nothing to draw".to_string())
+        Err("there is nothing to draw: no call of the log is accepted: nothing has begun; line 1 is refused by 1: rated 1 mA is not 6,000 to 80,000".to_string())
     );
     // An end outside of the log is that of the log.
     let svg = picture(&late, (0, 9_000));

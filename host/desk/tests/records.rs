@@ -42,8 +42,8 @@ fn each_difference_is_marked_and_counted() {
         ("told C2 533 closed 3 1", "fault residual current, commanded none"),
         ("told C2 533 closed 9 1", "fault 9, commanded none"),
         ("told C2 533 closed 0 2", "closings 2, commanded 1"),
-        ("told - - - - - 1 0 -", "line 1 1 mA, commanded 0 mA"),
-        ("told F 0 open 5 0 0 7 0", "state F, commanded C2; wave -12 V, commanded 53.3 % = 31.98 A; contactor open, commanded closed; fault over-temperature, commanded none; closings 0, commanded 1; line 2 7 mA, commanded 0 mA"),
+        ("told - - - - - 1 0 -", "line 1: 1 mA, commanded 0 mA"),
+        ("told F 0 open 5 0 0 7 0", "state F, commanded C2; wave -12 V, commanded 53.3 % = 31.98 A; contactor open, commanded closed; fault over-temperature, commanded none; closings 0, commanded 1; line 2: 7 mA, commanded 0 mA"),
     ] {
         let shown = replayed(&format!("{told}\n"));
         assert!(line(&shown, "7     40  told").ends_with(&format!("!! DIFFERS: told {words}")), "{shown}");
@@ -79,8 +79,7 @@ fn told_lines_that_are_wrong() {
         ("tick 50\ntold C2 533 closed 256 1\n", "line 8: '256' is no FAULT;"),
         ("tick 50\ntold C2 533 closed 0 1 2 3\n", "line 8: L3 is missing;"),
         ("tick 50\ntold C2 533 closed 0 1 2 3 4 5\n", "line 8: '5' is one value too many;"),
-        ("tick 50\ntold - - - - -\ntold - - - - -\n", "line 9: told without its call; expected told right after the call whose reply it tells"),
-        ("panel 50 on\ntold - - - - -\n", "line 8: told without its call;"),
+        ("tick 50\ntold - - - - -\ntold - - - - -\n", "line 9: told without its call; expected one told behind the call whose reply it tells"),
         ("contact 50 shut\n", "line 7: 'shut' is neither open nor closed; expected contact TIME open|closed"),
         ("contact 50\n", "line 7: open|closed is missing;"),
         ("panel 50\n", "line 7: TEXT is missing; expected panel TIME TEXT"),
@@ -313,6 +312,88 @@ fn the_chattering_post() {
     }
     assert!(
         line(&shown, "panel     \"charging\" for").ends_with("ms with the contact open"),
+        "{shown}"
+    );
+}
+
+/// `why` has what was recorded by then, and nothing of later.
+#[test]
+fn why_knows_no_later_record() {
+    let log =
+        format!("{CHARGE}contact 60 closed\n# a remark\npanel 70 on\ntick 80\ncontact 50 open\n");
+    let answer = why(&log, "50");
+    line(&answer, "recorded: contact open since 50");
+    assert!(
+        !answer.contains("since 60") && !answer.contains("panel"),
+        "{answer}"
+    );
+    line(&why(&log, "60"), "recorded: contact closed since 60");
+    line(
+        &why(&log, "70"),
+        "recorded: contact closed since 60, panel \"on\" since 70",
+    );
+    let by_line = |number: &str| answer_line(&log, number);
+    assert!(!by_line("6").contains("recorded"));
+    line(&by_line("7"), "recorded: contact closed since 60");
+    assert!(!by_line("8").contains("panel"));
+}
+
+fn answer_line(log: &str, number: &str) -> String {
+    answer(&["why", "-", "--line", number], log)
+}
+
+/// A moment between two calls has its own time.
+#[test]
+fn a_contact_that_fails_between_two_calls() {
+    let log = format!("{CHARGE}contact 45 open\ntick 60\ntick 120\nsample 121 6000 -12000\nsample 200 6000 -12000\n");
+    assert!(!why(&log, "145").contains("NOT CLOSING"));
+    line(
+        &why(&log, "146"),
+        "The contact is NOT CLOSING: open since 45, commanded closed since 40.",
+    );
+}
+
+/// What the contact's line says counts, and a report does not move the clock of the calls.
+#[test]
+fn records_of_another_clock() {
+    let shown = replayed(
+        "contact 45 closed\ncontact 50000 closed\nfault 100 3\ntick 110\ntick 201\ntick 215\n",
+    );
+    assert!(
+        line(&shown, "8 ")
+            .ends_with("!! its time is 49,960 ms after the last call's: is it of another clock?"),
+        "{shown}"
+    );
+    assert!(
+        line(&shown, "11    201")
+            .ends_with("!! contact WELDED: closed for 101 ms, commanded open since 100"),
+        "{shown}"
+    );
+    line(
+        &shown,
+        "contact   2 reports; moved BY ITSELF never; WELDED 1 time, the longest 115 ms",
+    );
+    // A time that no call can have is no time.
+    let shown = replayed("contact 45 closed\npanel 46 on\ncontact 18446744073709551615 open\npanel 1000000000001 off\ntick 60\n");
+    assert!(!shown.contains("BY ITSELF,"), "{shown}");
+    let log = format!("{CHARGE}contact 18446744073709551615 open\npanel 1000000000001 off\n");
+    let svg = answer(&["plot", "-", "-o", "-"], &log);
+    assert!(svg.contains(" 0 to 10,040 ms:"), "{svg}");
+}
+
+/// Records may stand between a call and what was told of it, but one reply is told once.
+#[test]
+fn a_contact_between_a_call_and_its_told() {
+    let shown = replayed("contact 41 closed\npanel 42 on\ntold C2 533 closed 0 1\n");
+    line(&shown, "told      1 reply, of which 0 DIFFER");
+}
+
+/// Line 3 is compared, too.
+#[test]
+fn every_line_is_compared() {
+    let shown = replayed("measure 50 1 2 3\ntold - - - - - 1 2 4\n");
+    assert!(
+        line(&shown, "8 ").ends_with("!! DIFFERS: told line 3: 4 mA, commanded 3 mA"),
         "{shown}"
     );
 }

@@ -53,7 +53,7 @@ fn a_clock_that_jumped() {
         &answer,
         "at 5000: the last accepted call is line 7, tick at 900000000000",
     );
-    line(&answer, "The call nearest to that time, line 255 at 5000, was refused for its own time: by the log's order it came after line 7, at 900000000000.");
+    line(&answer, "The call nearest to that time, line 255, at 5000, was refused for its own time: by the log's order it came after line 7, at 900000000000.");
     line(
         &answer,
         "OPENED: 899,999,999,960 ms since the last sound sample (ii); line 7",
@@ -125,8 +125,8 @@ fn past_the_end_of_a_log() {
         "The log ends at 40, in line 6: what came after is not in it.",
     );
     assert!(!why(CHARGE, "40").contains("The log ends"));
-    let answer = why(CHARGE, "141");
-    line(&answer, "No accepted call for 101 ms while closed");
+    // Nobody knows what came then.
+    assert!(!why(CHARGE, "141").contains("No accepted call"));
     // A refused call that is not refused for its time is a part of the log.
     let answer = why(&format!("{CHARGE}limit 60 80001\n"), "60");
     assert!(!answer.contains("The log ends"), "{answer}");
@@ -137,15 +137,15 @@ fn milliseconds_since_1970() {
     for (time, words) in [
         (
             1_763_000_000_000_u64,
-            "it looks like milliseconds since 1970: count milliseconds from the post's start",
+            "it looks like milliseconds since 1970 (2025-11-13T02:13:20.000Z): count milliseconds from the post's start",
         ),
         (
             1_763_000_000_000_000,
-            "it looks like microseconds since 1970: count milliseconds from the post's start",
+            "it looks like microseconds since 1970 (2025-11-13T02:13:20.000Z): count milliseconds from the post's start",
         ),
         (
             1_763_000_000_000_000_000,
-            "it looks like nanoseconds since 1970: count milliseconds from the post's start",
+            "it looks like nanoseconds since 1970 (2025-11-13T02:13:20.000Z): count milliseconds from the post's start",
         ),
         (
             9_000_000_000_000,
@@ -203,7 +203,7 @@ fn what_two_unsound_samples_show() {
         ),
         (
             ["9000 9000", "9000 9000"],
-            "no low level: high 9,000 mV at 50",
+            "no low level: low 9,000 mV at 50",
         ),
         (
             ["7592 -12000", "9000 -12000"],
@@ -212,6 +212,30 @@ fn what_two_unsound_samples_show() {
         (
             ["12000 -12000", "9000 -12000"],
             "one unlike the other: high 12,000 mV at 50",
+        ),
+        (
+            ["7592 -12000", "12000 -12000"],
+            "one unlike the other: high 7,592 mV at 50",
+        ),
+        (
+            ["7500 -12000", "1500 -12000"],
+            "level between bands: high 7,500 mV at 50",
+        ),
+        (
+            ["1501 -10999", "7499 -13001"],
+            "no low level: low -10,999 mV at 50",
+        ),
+        (
+            ["13000 -12000", "11000 -12000"],
+            "unplugged, A: high 13,000 mV at 50",
+        ),
+        (
+            ["-1001 -12000", "-1001 -12000"],
+            "level beyond all bands: high -1,001 mV at 50",
+        ),
+        (
+            ["-1000 -12000", "1000 -12000"],
+            "short circuit or no power, E: high -1,000 mV at 50",
         ),
     ] {
         let [first, second] = samples;
@@ -245,4 +269,116 @@ fn the_contactor_at_the_end() {
         &format!("{CHARGE}tick 100\ntick 121\ntick 500\n"),
     );
     line(&shown, "time      0 to 500 ms, closed for 81 ms");
+}
+
+/// A host whose clock goes wrong while closed: every call is refused for its own time, and nothing is judged.
+#[test]
+fn calls_that_are_refused_for_their_own_times() {
+    let samples = |from: u64, to: u64| -> String {
+        let times = (from..=to).step_by(20);
+        times
+            .map(|time| format!("sample {time} 9000 -12000\n"))
+            .collect()
+    };
+    // To milliseconds since 1970, for 10 s.
+    let log = format!("{CHARGE}{}", samples(1_794_900_000_060, 1_794_900_010_060));
+    let words = "no accepted call for at least 120 ms while closed, by the refused calls' own times: the 80 ms rule is not judged";
+    let shown = answer(&["replay", "-", "--only", "changes"], &log);
+    assert_eq!(shown.matches(words).count(), 1, "{shown}");
+    line(&shown, "silence   1 time without an accepted call while closed; the longest at least 10,000 ms by the refused calls' own times, from 40 on: the 80 ms rule was not judged");
+    let row = answer(&["summary", "-", "--format", "json"], &log);
+    assert!(
+        row.contains("\"silences\":1,\"silence_longest\":10000"),
+        "{row}"
+    );
+    let answer = why(&log, "1794900005060");
+    line(&answer, "No accepted call for at least 5,000 ms while closed, by the refused calls' own times: the 80 ms rule was not judged.");
+    // Back by 5 s, and accepted again when the clock has come to where it was.
+    let back = format!(
+        "{CHARGE}sample 10000 6000 -12000\n{}sample 10020 6000 -12000\n",
+        samples(5_020, 9_980)
+    );
+    let shown = tool::answer(&["replay", "-", "--only", "changes"], &back);
+    line(&shown, "silence   2 times without an accepted call while closed; the longest 9,960 ms, from 40 to 10000");
+    assert!(shown.contains("!! no accepted call for at least 4,960 ms while closed, by the refused calls' own times: the 80 ms rule was not judged"), "{shown}");
+    // Steps of more than a second are jumps of the clock; and an open contactor has nothing to be judged.
+    let jumps = format!("{CHARGE}tick 5\ntick 2000000000000\ntick 6\ntick 3000000000000\n");
+    assert!(!tool::answer(&["replay", "-"], &jumps).contains("no accepted call"));
+    let open = format!("{CHARGE}tick 121\n{}", samples(10, 100));
+    assert!(!tool::answer(&["replay", "-"], &open).contains("no accepted call"));
+}
+
+/// What a list ends in counts, also where the next one starts its clock anew.
+#[test]
+fn a_restart_after_a_silence() {
+    let log = format!("{CHARGE}limit 3600000 80001\nbegin 0 32000 0 no\ntick 20\n");
+    let shown = answer(&["replay", "-"], &log);
+    assert!(
+        line(&shown, "8 ").ends_with(
+            "!! no accepted call for 3,599,960 ms while closed: the 80 ms rule was not judged"
+        ),
+        "{shown}"
+    );
+    line(&shown, "silence   1 time without an accepted call while closed; the longest 3,599,960 ms, from 1:40 to 1:3600000");
+    line(&shown, "time      1:0 to 2:20 ms, closed for 3,599,960 ms");
+    // The time between two lists is of neither, and the opening is one to look at.
+    let gap = format!("{CHARGE}begin 1000000 32000 3000 no\ntick 1000020\n");
+    let row = answer(&["summary", "-", "--format", "json"], &gap);
+    assert!(
+        row.contains("\"opened_begin\":1,\"opened_trouble\":1,\"span\":60,\"closed\":0,"),
+        "{row}"
+    );
+}
+
+/// `why` counts the calls that were refused by then.
+#[test]
+fn refused_by_then() {
+    let mut log = format!("{CHARGE}tick 900000000000\n");
+    for time in (60..6_000).step_by(20) {
+        log.push_str(&format!("sample {time} 6000 -12000\n"));
+    }
+    let by_line = |number: &str| answer(&["why", "-", "--line", number], &log);
+    line(&by_line("20"), "after it 13 refused");
+    line(
+        &by_line("20"),
+        "The call in line 20, at 300, was refused for its own time",
+    );
+    assert!(!by_line("7").contains("refused"));
+    let epoch = "begin 0 32000 0 no\ntick 1794900000000\ntick 1794900000020\ntick 1794900000040\n";
+    line(&why(epoch, "1794900000020"), "after it 2 refused");
+    line(
+        &why(epoch, "20"),
+        "The log ends at 0, in line 1: what came after is not in it.",
+    );
+}
+
+#[test]
+fn a_stop_that_runs() {
+    let mut log = format!("{CHARGE}limit 50 0\n");
+    for time in (60..1_000).step_by(20) {
+        log.push_str(&format!("sample {time} 6000 6000\n"));
+    }
+    line(&why(&log, "500"), "A stop runs since 50: limit 0 mA is below 6,000; opens at 3050 unless a wave is driven by then.");
+    assert!(!why(&log, "45").contains("A stop runs"));
+}
+
+/// Where nothing has begun every command says why.
+#[test]
+fn nothing_has_begun() {
+    let log = "begin 1763000000000 32000 0 no\ntick 1763000000020\n";
+    let advice = "it looks like milliseconds since 1970 (2025-11-13T02:13:20.000Z): count milliseconds from the post's start";
+    for words in [
+        &["why", "-", "--at", "5"][..],
+        &["plot", "-", "-o", "-"],
+        &["plot", "-", "-o", "-", "--from", "5"],
+    ] {
+        let output = tool::run_file(words, log.as_bytes());
+        let said = tool::text(&output.stderr);
+        assert!(
+            output.status.code() == Some(2) && said.contains(advice),
+            "{said}"
+        );
+    }
+    let row = answer(&["summary", "-"], log);
+    assert!(row.ends_with(" (no begin was accepted)\n"), "{row}");
 }

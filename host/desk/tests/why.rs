@@ -224,7 +224,7 @@ fn refused_calls_are_told_and_no_more() {
     let first = "; the first is line 3, limit 80,001 mA: REFUSED 13: a limit is at most 80,000 mA, so 0 mA stays; is the load manager's unit milliamps?";
     line(
         &why(log, "40"),
-        &format!("after it 3 refused, which judge nothing{first}"),
+        &format!("after it 2 refused, which judge nothing{first}"),
     );
     line(
         &why(log, "90"),
@@ -265,7 +265,7 @@ fn what_can_not_be_asked() {
     let none = run(&["why", "-", "--at", "5"], b"begin 0 1 0 no\n");
     assert_eq!(
         text(&none.stderr),
-        "chuldariin: --at 5: no call of the log is accepted: nothing has begun\n"
+        "chuldariin: --at 5: no call of the log is accepted: nothing has begun; line 1 is refused by 1: rated 1 mA is not 6,000 to 80,000\n"
     );
 }
 

@@ -19,7 +19,7 @@ pub struct Reader<R> {
     /// The number of the last line.
     line: usize,
     bytes: Vec<u8>,
-    /// A `told` may follow: the line before it is a call, or a comment behind one.
+    /// A `told` may follow: since the last call there was none.
     called: bool,
 }
 
@@ -58,17 +58,15 @@ impl<R: BufRead> Reader<R> {
         let line = self.line;
         let bytes = self.bytes.strip_suffix(b"\n").unwrap_or(&self.bytes);
         let bytes = bytes.strip_suffix(b"\r").unwrap_or(bytes);
-        // The mark that some editors put before UTF-8.
-        let mark = bytes.strip_prefix(b"\xef\xbb\xbf").filter(|_| line == 1);
-        let parsed = parse_line(line, mark.unwrap_or(bytes)).transpose()?;
+        // The mark that some editors put before UTF-8; in the middle where two logs were joined.
+        let bytes = bytes.strip_prefix(b"\xef\xbb\xbf").unwrap_or(bytes);
+        let parsed = parse_line(line, bytes).transpose()?;
         let entry = parsed.and_then(|what| self.in_place(Entry { line, what }));
-        self.called = match &entry {
-            Ok(entry) => match entry.what {
-                Line::Call(_) => true,
-                Line::Comment(_) => self.called,
-                Line::Record(_) => false,
-            },
-            Err(_) => false,
+        self.called = match entry.as_ref().map(|entry| &entry.what) {
+            Ok(Line::Call(_)) => true,
+            Ok(Line::Record(Record::Told(_))) | Err(_) => false,
+            // A contact may move while the post writes.
+            Ok(Line::Comment(_) | Line::Record(_)) => self.called,
         };
         Some(entry)
     }
@@ -79,7 +77,7 @@ impl<R: BufRead> Reader<R> {
             Line::Record(Record::Told(_)) if !self.called => Err(Wrong {
                 line: entry.line,
                 what: "told without its call".to_string(),
-                expected: "told right after the call whose reply it tells",
+                expected: "one told behind the call whose reply it tells",
             }),
             _ => Ok(entry),
         }

@@ -9,8 +9,8 @@ use crate::lists::Moment;
 use crate::recorded::Difference;
 use chuldariin_log::Told;
 
-/// No call has a later time. A record that has one does not stretch the axis.
-const LATEST: u64 = 1_000_000_000_000;
+/// A record that is further ahead of the calls stretches the axis no more, ms: it may be of another clock.
+const AHEAD: u64 = 10_000;
 
 /// A time in which the contact does not follow its command.
 pub struct Failed {
@@ -52,7 +52,7 @@ impl Records {
         let moment = match seen.what {
             What::Contact(_) | What::Panel(_) => Moment {
                 list: now.list,
-                time: seen.moment.time.min(LATEST),
+                time: seen.moment.time.min(now.time.saturating_add(AHEAD)),
             },
             What::Told(..) => now,
             _ => return,

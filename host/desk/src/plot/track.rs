@@ -296,7 +296,7 @@ impl Track {
     /// The log is over: where does what is drawn start and end?
     fn finish(&mut self, window: &Window) -> Result<(), NothingThere> {
         let (Some(begin), Some(accepted)) = (self.clock.start(), self.accepted) else {
-            return Err(NothingThere::NotAccepted);
+            return Err(NothingThere::NotAccepted(self.lists.not_begun()));
         };
         let count = self.lists.count();
         let calls_end = self.lists.get(count).map_or(0, |list| list.end);

@@ -12,7 +12,8 @@ use std::fmt;
 /// Why nothing of the log lies in the part that was asked for.
 #[derive(Debug)]
 pub enum NothingThere {
-    NotAccepted,
+    /// Nothing has begun, and why.
+    NotAccepted(String),
     /// What was asked for, and where the log begins or ends.
     Before(String, String),
     After(String, String),
@@ -22,12 +23,7 @@ pub enum NothingThere {
 impl fmt::Display for NothingThere {
     fn fmt(&self, f: &mut fmt::Formatter<'_>) -> fmt::Result {
         match self {
-            NothingThere::NotAccepted => {
-                write!(
-                    f,
-                    "no call of the log was accepted: there is nothing to draw"
-                )
-            }
+            NothingThere::NotAccepted(why) => write!(f, "there is nothing to draw: {why}"),
             NothingThere::Before(to, begin) => write!(
                 f,
                 "--to {to}: the log begins at {begin}; expected a later --to"
@@ -68,7 +64,7 @@ impl Window {
         }
         let lists = lists_of(log)?;
         let Some(first) = lists.get(1) else {
-            return Err(NothingThere::NotAccepted.into());
+            return Err(NothingThere::NotAccepted(lists.not_begun()).into());
         };
         let early = |ask: &Ask| is_early(&lists, *ask);
         if let Some(to) = part.1.filter(early) {
