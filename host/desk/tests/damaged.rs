@@ -53,7 +53,7 @@ fn why_and_plot_and_summary_take_them_too() {
     let why = text(&skipped(&["why", "-", "--at", "60"], log.as_bytes()).stdout);
     line(&why, "The contactor is closed since line 8, at 40.");
     let svg = text(&skipped(&["plot", "-", "-o", "-"], log.as_bytes()).stdout);
-    assert!(svg.contains("<svg") && svg.ends_with("</svg>\n"));
+    assert!(svg.ends_with("</svg>\n") && svg.contains(">2 bad lines left out</text>"));
     let output = skipped(&["summary", "-", "--format", "json"], log.as_bytes());
     let row = text(&output.stdout);
     assert!(

@@ -153,3 +153,40 @@ fn a_short_silence_is_seen() {
     let [hatch] = hatched(&svg).try_into().expect("one hatch");
     assert!(hatch.width >= 3.0, "{hatch:?}");
 }
+
+/// Calls that are refused for their own times while closed: there is no place for them, but it is seen that they are there.
+#[test]
+fn a_clock_that_went_wrong_while_closed() {
+    let samples = |from: u64, to: u64| -> String {
+        let times = (from..=to).step_by(20);
+        times
+            .map(|time| format!("sample {time} 6000 -12000\n"))
+            .collect()
+    };
+    let words = "at least 10,000 ms not judged, by the refused calls' own times";
+    let stuck = format!("{CHARGE}{}", samples(1_794_900_000_000, 1_794_900_010_000));
+    let svg = picture(&stuck, WHOLE);
+    assert!(
+        svg.contains(words) && svg.contains("url(#unjudged)"),
+        "{svg}"
+    );
+    assert!(svg.contains("closed, not judged: the last accepted call is at 40; no accepted call for at least 10,000 ms while closed"), "{svg}");
+    // The clock steps back, and comes to where it was.
+    let back = format!(
+        "{CHARGE}{}{}sample 10080 6000 -12000\n",
+        samples(60, 10_060),
+        samples(60, 10_060)
+    );
+    let svg = picture(&back, WHOLE);
+    assert!(
+        svg.contains("at least 9,980 ms not judged") && svg.contains("url(#unjudged)"),
+        "{svg}"
+    );
+    // A part in which calls name its times that were made at another.
+    let jump = format!("{CHARGE}tick 900000000000\n{}", samples(60, 1_060));
+    let svg = picture(&jump, (0, 500));
+    assert!(
+        svg.contains("23 calls at times of this part refused for these, and made at another"),
+        "{svg}"
+    );
+}

@@ -115,9 +115,9 @@ fn legend(svg: &mut Svg, track: &Track) {
         svg.text(x + 30.0, y, 11.0, Anchor::Start, "faint", words);
         x += width;
     }
-    for &(class, words, radius) in dots {
+    dots.iter().fold(x, |x, &(class, words, radius)| {
         svg.circle(x + 12.0, y - 4.0, radius, class);
         svg.text(x + 20.0, y, 11.0, Anchor::Start, "faint", words);
-        x += 68.0;
-    }
+        x + 68.0
+    });
 }

@@ -105,7 +105,7 @@ fn told(track: &Track) -> Vec<String> {
 fn contact(track: &Track) -> Vec<String> {
     only(
         !track.records.failed.is_empty(),
-        "red: it does not follow its command; WELDED: commanded open, NOT CLOSING: commanded closed",
+        "red: not as commanded for longer than it may be; WELDED: commanded open, NOT CLOSING: commanded closed",
     )
 }
 

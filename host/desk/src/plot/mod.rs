@@ -93,6 +93,7 @@ pub fn plot(log: &Log, name: &str, part: Part) -> Result<String, Box<dyn Error>>
     let (scale, layout) = (Scale::of(&track), Layout::of(&track));
     let mut svg = Svg::new();
     heading(&mut svg, &track, name);
+    remarks(&mut svg, &track, log.damage.bad_lines());
     levels::draw(&mut svg, &track, &scale);
     currents::draw(&mut svg, &track, &scale);
     strips::draw(&mut svg, &track, &scale);
@@ -126,6 +127,35 @@ fn heading(svg: &mut Svg, track: &Track, name: &str) {
     }
     let y = if words.len() > LONG { 60.0 } else { 44.0 };
     svg.text(RIGHT, y, 11.0, Anchor::End, "faint", LEGEND);
+}
+
+/// What the picture does not show.
+fn remarks(svg: &mut Svg, track: &Track, bad_lines: u64) {
+    let mut remarks = Vec::new();
+    if track.strays > 0 {
+        let calls = counted(track.strays, "call");
+        remarks.push(format!(
+            "{calls} at times of this part refused for these, and made at another"
+        ));
+    }
+    let strayed = track
+        .unjudged
+        .iter()
+        .filter_map(|unjudged| unjudged.silence);
+    let strayed = strayed.filter(|silence| silence.strayed && silence.is_long());
+    if let Some(longest) = strayed.map(|silence| silence.long).max() {
+        let long = grouped(longest);
+        remarks.push(format!(
+            "at least {long} ms not judged, by the refused calls' own times"
+        ));
+    }
+    if bad_lines > 0 {
+        remarks.push(format!("{} left out", counted(bad_lines, "bad line")));
+    }
+    if !remarks.is_empty() {
+        let words = remarks.join("; ");
+        svg.text(RIGHT, 24.0, 12.0, Anchor::End, "alarm", &words);
+    }
 }
 
 /// Both ends by the wall's clock, as far as it is known.

@@ -24,7 +24,7 @@ text{font-family:'DejaVu Sans',Verdana,Arial,sans-serif;fill:#24292f}\
 .opened{stroke:#cf222e;stroke-width:1.2}\
 .closed{stroke:#1a7f37;stroke-width:1.2}\
 .begun{stroke:#24292f;stroke-width:1;stroke-dasharray:1 3}\
-.red{fill:#cf222e}\
+.red,.alarm{fill:#cf222e}\
 .white{fill:#ffffff;font-weight:bold}";
 
 /// Where a text stands beside its place.

@@ -75,6 +75,8 @@ pub struct Track {
     pub closings: u64,
     pub openings: u64,
     pub refused_calls: u64,
+    /// Calls that name a time of the part, and were refused for it: they were made at another.
+    pub strays: u64,
     /// The ends of what is drawn.
     pub origin: u64,
     pub end: u64,
@@ -169,6 +171,9 @@ impl Track {
         };
         // A time that is refused itself says nothing of when the call was made.
         let moment = own.unwrap_or(self.now);
+        let time = turn.call.time();
+        let is_stray = window.has(Moment { list, time }) && !window.has(moment);
+        self.strays += u64::from(is_stray);
         let at = self.clock.at(moment);
         self.judged(turn, at, window);
         if turn.accepted() && window.is_before(moment) {
