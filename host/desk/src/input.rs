@@ -225,8 +225,9 @@ pub struct Shape {
     pub calls: u64,
     /// The greatest time of a call or record.
     pub last_time: u64,
-    /// Begins that are accepted.
+    /// Begins that are accepted, and the time of the last of them.
     pub lists: u32,
+    pub begin: u64,
     /// A measure has a current for each line.
     pub three_lines: bool,
     /// A begin is digital.
@@ -251,7 +252,10 @@ impl Shape {
                 self.three_lines |= matches!(call, Call::MeasureLines(..));
                 if let Call::Begin(settings) = call {
                     self.digital |= settings.digital;
-                    self.lists += u32::from(begin(settings).is_ok());
+                    if begin(settings).is_ok() {
+                        self.lists += 1;
+                        self.begin = settings.time;
+                    }
                 }
             }
         }

@@ -24,7 +24,7 @@
 //! | `data`, `rows` | one row a line, as CSV or JSON |
 //! | `summary`, `totals` | what a whole log comes to, and in words |
 //! | `replay`, `follow` | the command `replay` |
-//! | `conditions`, `why` | the command `why` |
+//! | `found`, `conditions`, `why` | the command `why` |
 //! | `plot` | the command `plot` |
 //! | `many`, `overview` | the command `summary`: many logs, one row each |
 //! | `demo` | the command `demo`: a charging day |
@@ -41,6 +41,7 @@ pub mod demo;
 pub mod evaluate;
 pub mod fold;
 pub mod follow;
+pub mod found;
 pub mod grant;
 pub mod input;
 pub mod latched;
