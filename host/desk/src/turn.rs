@@ -304,10 +304,12 @@ impl Post {
             return None;
         }
         let from = turn.before.last;
-        // A clock that starts anew tells nothing of the time between two lists.
-        let time = match turn.begins() && !turn.clock_runs_on() {
-            true => turn.latest,
-            false => turn.credible_time().unwrap_or(from),
+        // A clock that starts anew tells nothing of the time between two lists, and a refused time nothing at all.
+        let anew = turn.begins() && !turn.clock_runs_on();
+        let time = match turn.credible_time() {
+            Some(own) if turn.accepted() && !anew => own,
+            Some(own) if !anew => own.max(turn.latest),
+            _ => turn.latest,
         };
         let by_clock = time.saturating_sub(from);
         Some(Silence {

@@ -1,7 +1,7 @@
-//! The fast way from window to levels, held against the model's.
+//! The fast ways from window to levels and from current to duty, held against the model's.
 
-use chuldariin_desk::evaluate::evaluate;
-use chuldariin_model::levels;
+use chuldariin_desk::evaluate::{evaluate, remembered};
+use chuldariin_model::{duty_for, levels};
 use chuldariin_trials::dice::Dice;
 use chuldariin_trials::windows::{barely, clusters, irregular, noisy, peaks, scattered};
 
@@ -35,6 +35,18 @@ fn readings_out_of_range() {
                 levels(&readings),
                 "{reading} at {place}"
             );
+        }
+    }
+}
+
+/// Whatever was asked before.
+#[test]
+fn the_same_duties_as_the_model() {
+    let mut dice = Dice::new(6);
+    for current in (0..=80_001).step_by(7).chain([u32::MAX]) {
+        let other = dice.between(0, 80_001) as u32;
+        for asked in [current, current, other, current] {
+            assert_eq!(remembered(asked), duty_for(asked), "{asked}");
         }
     }
 }

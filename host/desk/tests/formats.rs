@@ -389,3 +389,21 @@ fn every_number_of_a_row() {
         assert_eq!(value(name), expected, "{name}");
     }
 }
+
+/// A begin that finds the contactor closed opens it, for no cause.
+#[test]
+fn an_opening_by_a_begin() {
+    let rows = csv(&answer(
+        &["replay", "-", "--format", "csv"],
+        &format!("{CHARGE}begin 50 32000 0 no\n"),
+    ));
+    let place = |name: &str| rows[0].iter().position(|field| field == name).expect(name);
+    let last = rows.last().expect("a row");
+    assert_eq!(
+        (
+            last[place("event")].as_str(),
+            last[place("causes")].as_str()
+        ),
+        ("opened", "")
+    );
+}

@@ -191,6 +191,12 @@ fn gzip_that_is_not_there_or_not_content() {
         format!("chuldariin: {}: can't be read: gzip is not on the PATH; install it, or unpack the log first\n", packed.display())
     );
     let not_packed = file("plain.log.gz", CHARGE.as_bytes());
+    let nothing = run(&["replay", name(&not_packed), "--skip-bad"], b"");
+    assert_eq!(
+        nothing.status.code(),
+        Some(2),
+        "there is nothing to skip to"
+    );
     let output = run(&["replay", name(&not_packed)], b"");
     assert_eq!(
         (output.status.code(), text(&output.stdout)),

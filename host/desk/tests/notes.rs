@@ -150,3 +150,12 @@ fn the_greater_half_is_the_high_level() {
     );
     assert!(line(&answer, "8 ").contains("B unsound"), "{answer}");
 }
+
+/// Equal refusals of different calls are different changes.
+#[test]
+fn equal_refusals_of_other_calls() {
+    let (_, rows) = changes(&format!(
+        "{CHARGE}limit 39 1\nlimit 38 1\ntick 38\ntick 37\n"
+    ));
+    assert_eq!(rows, ["1", "4", "6", "7", "9"]);
+}

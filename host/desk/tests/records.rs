@@ -397,3 +397,58 @@ fn every_line_is_compared() {
         "{shown}"
     );
 }
+
+/// A contact may bounce for as long as it may take to follow.
+#[test]
+fn the_end_of_a_bounce() {
+    let moves = |travel: &str, time: u64| {
+        let open = format!("contact {time} open");
+        let chatter = charging(
+            600,
+            &[(44, travel), (45, "contact 45 closed"), (time, &open)],
+        );
+        changes(&chatter).contains("BY ITSELF, commanded closed since 40")
+    };
+    assert_eq!((moves("# none", 140), moves("# none", 141)), (false, true));
+    assert_eq!(
+        (moves("travel 250", 290), moves("travel 250", 291)),
+        (false, true)
+    );
+}
+
+/// A report that is stamped before the command counts from the command on.
+#[test]
+fn a_report_from_before_the_command() {
+    let shown = changes(&format!(
+        "contact 35 open\ncontact 36 open\n{}",
+        charging(200, &[])
+    ));
+    assert!(
+        shown.contains("!! contact NOT CLOSING: open for 110 ms, commanded closed since 40"),
+        "{shown}"
+    );
+}
+
+/// What was told as commanded has no row, and what is reported again has one only if there is something to say.
+#[test]
+fn rows_of_records() {
+    let shown = replayed("told C2 533 closed 0 1\ncontact 45 closed\ncontact 46 closed\ntick 121\ncontact 222 closed\n");
+    assert!(
+        !shown.lines().any(|row| row.starts_with("   7 ")),
+        "{shown}"
+    );
+    assert!(
+        line(&shown, "9 ").contains("contact closed"),
+        "all rows are shown"
+    );
+    let shown = changes("contact 45 closed\ncontact 46 closed\ntick 121\ncontact 222 closed\n");
+    assert!(
+        !shown.lines().any(|row| row.starts_with("   8 ")),
+        "{shown}"
+    );
+    assert!(
+        line(&shown, "10 ")
+            .ends_with("!! contact WELDED: closed for 101 ms, commanded open since 121"),
+        "{shown}"
+    );
+}

@@ -308,6 +308,17 @@ fn calls_that_are_refused_for_their_own_times() {
     assert!(!tool::answer(&["replay", "-"], &open).contains("no accepted call"));
 }
 
+/// A stray call at the end takes nothing back.
+#[test]
+fn a_stray_call_behind_a_silence() {
+    let log = format!("{CHARGE}limit 5000 80001\ntick 5\nlimit 60 80001\n");
+    let shown = answer(&["replay", "-"], &log);
+    line(&shown, "silence   1 time without an accepted call while closed; the longest 4,960 ms, from 40 to 5000");
+    // An accepted call has the time that it names.
+    let shown = answer(&["replay", "-"], &format!("{log}sample 80 6000 -12000\n"));
+    assert!(!shown.contains("silence   "), "{shown}");
+}
+
 /// What a list ends in counts, also where the next one starts its clock anew.
 #[test]
 fn a_restart_after_a_silence() {
