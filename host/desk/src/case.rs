@@ -6,6 +6,9 @@ use crate::recorded::{Commanded, Difference};
 use crate::turn::{Asked, Differs, Post, Turn, LARGEST_TIME};
 use chuldariin_log::{Entry, Line, Record, Told, Wall};
 
+/// A record that is further ahead of the calls may be of another clock, ms.
+pub const AHEAD: u64 = 10_000;
+
 /// A line of a log, and what came of it.
 pub struct Seen<'a> {
     pub line: usize,
@@ -28,7 +31,7 @@ pub enum What<'a> {
     Contact(bool),
     Panel(&'a str),
     Clock,
-    Travel(u64),
+    Travel,
 }
 
 /// What the post recorded: its contact, held against the command, and its panel.
@@ -79,9 +82,8 @@ pub struct Case {
     pub lists: Lists,
     watched: Watched,
     commanded: Commanded,
-    /// The time of the last call, and the latest that was not refused itself.
+    /// The time of the last call.
     time: u64,
-    latest: u64,
 }
 
 impl Default for Case {
@@ -92,7 +94,6 @@ impl Default for Case {
             watched: Watched::default(),
             commanded: Commanded::nothing(),
             time: 0,
-            latest: 0,
         }
     }
 }
@@ -126,13 +127,14 @@ impl Case {
             _ => None,
         };
         let moment = self.lists.now(own.unwrap_or(self.time));
+        let latest = self.lists.get(moment.list).map_or(0, |list| list.end);
         Ok(Seen {
             line: entry.line,
             moment,
             wall: self.lists.wall(moment),
             what,
             contact,
-            ahead: own.map_or(0, |time| time.saturating_sub(self.latest)),
+            ahead: own.map_or(0, |time| time.saturating_sub(latest)),
         })
     }
 
@@ -140,10 +142,6 @@ impl Case {
         self.time = turn.call.time();
         self.commanded = Commanded::by(turn);
         self.lists.see(turn);
-        self.latest = match turn.begins() {
-            true => self.time,
-            false => self.latest.max(turn.credible_time().unwrap_or(0)),
-        };
         self.watched.called(turn)
     }
 
@@ -159,14 +157,9 @@ impl Case {
                 self.lists.tie(*time, *wall);
                 What::Clock
             }
-            Record::Travel(millis) => What::Travel(*millis),
+            Record::Travel(_) => What::Travel,
         };
         (what, event)
-    }
-
-    /// The contact as it was last reported.
-    pub fn contact(&self) -> &Contact {
-        &self.watched.contact
     }
 
     /// A contact that fails at the end of the log, and for how long it has.

@@ -124,13 +124,17 @@ impl List {
 
 /// The lists of a log, as far as it was replayed.
 #[derive(Clone, Debug, Default)]
-pub struct Lists(Vec<List>, Option<String>);
+pub struct Lists {
+    all: Vec<List>,
+    /// Why the first begin was refused.
+    refused: Option<String>,
+}
 
 impl Lists {
     pub fn see(&mut self, turn: &Turn) {
         if turn.begins() {
             let begin = turn.after.last;
-            self.0.push(List {
+            self.all.push(List {
                 line: turn.line,
                 begin,
                 end: begin,
@@ -139,9 +143,9 @@ impl Lists {
                 runs_on: turn.clock_runs_on(),
                 ties: Vec::new(),
             });
-        } else if self.0.is_empty() {
+        } else if self.all.is_empty() {
             self.refused_begin(turn);
-        } else if let Some(list) = self.0.last_mut() {
+        } else if let Some(list) = self.all.last_mut() {
             list.last_line = turn.line;
             if let Some(time) = turn.credible_time().filter(|time| *time >= list.end) {
                 (list.end, list.end_line) = (time, turn.line);
@@ -153,13 +157,13 @@ impl Lists {
     fn refused_begin(&mut self, turn: &Turn) {
         let (number, line) = (turn.reply.refusal, turn.line);
         let why = || format!("line {line} is refused by {number}: {}", refusal(turn));
-        self.1.get_or_insert_with(why);
+        self.refused.get_or_insert_with(why);
     }
 
     /// That nothing has begun, and why.
     pub fn not_begun(&self) -> String {
         let why = self
-            .1
+            .refused
             .as_ref()
             .map_or(String::new(), |why| format!("; {why}"));
         format!("no call of the log is accepted: nothing has begun{why}")
@@ -167,7 +171,7 @@ impl Lists {
 
     /// From this moment on the wall's clock is known, in the present list.
     pub fn tie(&mut self, time: u64, wall: Wall) {
-        if let Some(list) = self.0.last_mut() {
+        if let Some(list) = self.all.last_mut() {
             // One that was written late says nothing of what was shown before it.
             let last = list.ties.last().map_or(0, |tie| tie.from);
             let from = time.max(last);
@@ -176,11 +180,11 @@ impl Lists {
     }
 
     pub fn count(&self) -> u32 {
-        self.0.len() as u32
+        self.all.len() as u32
     }
 
     pub fn get(&self, number: u32) -> Option<&List> {
-        self.0.get((number as usize).checked_sub(1)?)
+        self.all.get((number as usize).checked_sub(1)?)
     }
 
     /// A time of the present list.
@@ -237,6 +241,12 @@ impl Lists {
         }
     }
 
+    /// A bare time before the first begin, that fits no other list.
+    pub fn is_early(&self, ask: Ask) -> bool {
+        let begin = self.get(1).map_or(0, |first| first.begin);
+        matches!(ask, Ask::Time(time) if time < begin) && self.find(ask).is_err()
+    }
+
     /// The moment that an option asks for.
     pub fn find_named(&self, option: &str, ask: Ask) -> Result<Moment, NoMoment> {
         self.find(ask).map_err(|none| NoMoment {
@@ -248,15 +258,15 @@ impl Lists {
     /// The lists that a time lies in; after the end of all it is of the last one.
     fn fitting(&self, time: u64) -> Vec<Moment> {
         let mut moments = Vec::new();
-        for (place, list) in self.0.iter().enumerate() {
-            let next = self.0.get(place + 1).filter(|next| next.runs_on);
+        for (place, list) in self.all.iter().enumerate() {
+            let next = self.all.get(place + 1).filter(|next| next.runs_on);
             let until = next.map_or(list.end, |next| list.end.max(next.begin.saturating_sub(1)));
             if (list.begin..=until).contains(&time) {
                 let list = place as u32 + 1;
                 moments.push(Moment { list, time });
             }
         }
-        let is_late = self.0.last().is_some_and(|last| time > last.end);
+        let is_late = self.all.last().is_some_and(|last| time > last.end);
         if moments.is_empty() && is_late {
             moments.push(self.now(time));
         }
@@ -265,7 +275,7 @@ impl Lists {
 
     /// The moments at which the wall's clock showed this.
     fn fitting_wall(&self, wall: Wall) -> Vec<Moment> {
-        let lists = (1..).zip(&self.0);
+        let lists = (1..).zip(&self.all);
         let times = lists.flat_map(|(list, found)| {
             let times = found.times_of(wall).into_iter();
             times.map(move |time| Moment { list, time })
@@ -286,7 +296,7 @@ impl Lists {
     /// Why nothing fits.
     fn none(&self, ask: Ask) -> NoMoment {
         let no = |words: String, expected: String| NoMoment { words, expected };
-        match (ask, self.0.first()) {
+        match (ask, self.all.first()) {
             (_, None) => no(self.not_begun(), String::new()),
             (Ask::In(Moment { list, .. }), _) => match self.get(list) {
                 Some(found) => no(
@@ -326,7 +336,7 @@ impl Lists {
     }
 
     fn first_tie(&self) -> Option<(Moment, Wall)> {
-        let ties = (1..).zip(&self.0);
+        let ties = (1..).zip(&self.all);
         let mut ties = ties.filter_map(|(list, found)| Some((list, found.ties.first()?)));
         ties.next().map(|(list, tie)| {
             let time = tie.time;

@@ -1,6 +1,6 @@
 //! The command `replay`: one line a call, and a summary.
 
-use crate::case::{Case, Seen, What};
+use crate::case::{Case, Seen, What, AHEAD};
 use crate::causes::{note, notes, Kind, Note};
 use crate::contact::Event;
 use crate::data::{Format, Rows};
@@ -142,6 +142,8 @@ struct Ends {
 
 impl Ends {
     fn find(lists: &Lists, from: Option<Ask>, to: Option<Ask>) -> Result<Ends, Box<dyn Error>> {
+        // Before the first begin there is nothing that could be left out.
+        let from = from.filter(|ask| !lists.is_early(*ask));
         let from = from
             .map(|ask| lists.find_named("--from", ask))
             .transpose()?;
@@ -287,9 +289,6 @@ impl<'a> Replay<'a> {
     }
 }
 
-/// A record that is further ahead of the calls may be of another clock, ms.
-const AHEAD: u64 = 10_000;
-
 /// What the next call is compared with.
 #[derive(Default)]
 struct Since {
@@ -339,7 +338,7 @@ impl Since {
             What::Contact(closed) => self.contact != Some(*closed) || !notes.is_empty(),
             What::Panel(text) => self.panel.as_deref() != Some(*text) || !notes.is_empty(),
             What::Told(..) => !notes.is_empty(),
-            What::Comment(_) | What::Clock | What::Travel(_) => true,
+            What::Comment(_) | What::Clock | What::Travel => true,
         }
     }
 

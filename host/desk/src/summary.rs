@@ -111,9 +111,8 @@ pub struct Summary {
     pub refused_now: u64,
     /// The last accepted call, and whether it left the contactor closed.
     pub held: Option<(Moment, bool)>,
-    /// The silence that goes on, and the greatest time in it.
+    /// The silence that goes on.
     unjudged: Option<Silence>,
-    latest: u64,
 }
 
 impl Summary {
@@ -163,13 +162,11 @@ impl Summary {
             self.refusals[turn.reply.refusal as usize] += 1;
             self.refused_now += 1;
             self.unjudged = turn.unjudged;
-            self.latest = self.latest.max(turn.credible_time().unwrap_or(0));
             return;
         }
         self.goes_on(turn);
         self.refused_now = 0;
         self.unjudged = None;
-        self.latest = turn.after.last;
         self.held = Some((moment, turn.reply.closed));
         if turn.begins() {
             self.lists += 1;
@@ -189,7 +186,7 @@ impl Summary {
     /// Time went on up to an accepted call. The time between two lists is of neither: the post may have been off.
     fn goes_on(&mut self, turn: &Turn) {
         let until = match turn.begins() {
-            true => self.latest,
+            true => turn.latest,
             false => turn.after.last,
         };
         if turn.begun && turn.before.closed {

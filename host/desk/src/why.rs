@@ -5,7 +5,7 @@ use crate::conditions::{conditions, waits_for};
 use crate::found::{find, Answer, Found, Kept, Until, OTHERS};
 use crate::grant;
 use crate::input::Log;
-use crate::lists::{Ask, Moment};
+use crate::lists::{Ask, Lists, Moment};
 use crate::paint::{Colour, Paint};
 use crate::running::{fault_2_due, stop_runs};
 use crate::table::safe;
@@ -25,22 +25,11 @@ pub enum At {
 
 /// Nothing was accepted up to there.
 #[derive(Debug)]
-pub struct TooEarly {
-    line: usize,
-    /// Line and time of the first accepted call, if there is one.
-    first: Option<(usize, u64)>,
-}
+pub struct TooEarly(String);
 
 impl fmt::Display for TooEarly {
     fn fmt(&self, f: &mut fmt::Formatter<'_>) -> fmt::Result {
-        match self.first {
-            Some((line, time)) => write!(
-                f,
-                "no call up to line {} is accepted; expected the first accepted call or later: line {line}, at {time}",
-                self.line
-            ),
-            None => write!(f, "no call of the log is accepted: nothing has begun"),
-        }
+        self.0.fmt(f)
     }
 }
 
@@ -59,12 +48,7 @@ pub fn why(log: &Log, at: At, paint: Paint, out: &mut impl Write) -> Result<(), 
     };
     let answer = find(log, until)?;
     let Some(last) = answer.found.last.clone() else {
-        let line = if let At::Line(line) = at { line } else { 0 };
-        return Err(TooEarly {
-            line,
-            first: first_accepted(log)?,
-        }
-        .into());
+        return Err(too_early(&answer.lists).into());
     };
     let told = Told {
         answer: &answer,
@@ -360,7 +344,12 @@ fn words_of(turn: &Turn, kind: Kind) -> String {
     note.map_or(String::new(), |note| note.words)
 }
 
-fn first_accepted(log: &Log) -> Result<Option<(usize, u64)>, Box<dyn Error>> {
-    let lists = crate::replay::lists_of(log)?;
-    Ok(lists.get(1).map(|first| (first.line, first.begin)))
+fn too_early(lists: &Lists) -> TooEarly {
+    TooEarly(match lists.get(1) {
+        Some(first) => format!(
+            "no call is accepted by then; expected the first accepted call or later: line {}, at {}",
+            first.line, first.begin
+        ),
+        None => lists.not_begun(),
+    })
 }

@@ -82,6 +82,12 @@ fn json_text(text: &str) -> (&str, &str) {
     panic!("no end: {text}")
 }
 
+/// The value of a field in a row.
+fn value<'a>(rows: &'a [Vec<String>], row: usize, name: &str) -> &'a str {
+    let place = rows[0].iter().position(|field| field == name).expect(name);
+    &rows[row][place]
+}
+
 #[test]
 fn rows_of_csv() {
     let rows = csv(&answer(&["replay", "-", "--format", "csv"], &log()));
@@ -229,10 +235,6 @@ fn a_row_a_log() {
     let rows = csv(&answer(&["summary", "-", "--format", "csv"], &log()));
     assert_eq!(rows[0].join(","), SUMMARY);
     assert_eq!(rows.len(), 2);
-    let value = |name: &str| {
-        let place = rows[0].iter().position(|field| field == name).expect(name);
-        rows[1][place].as_str()
-    };
     for (name, expected) in [
         ("error", ""),
         ("begins", "2"),
@@ -254,7 +256,7 @@ fn a_row_a_log() {
         ("bad_lines", "0"),
         ("silence_longest", "0"),
     ] {
-        assert_eq!(value(name), expected, "{name}");
+        assert_eq!(value(&rows, 1, name), expected, "{name}");
     }
     let object = answer(&["summary", "-", "--format", "json"], &log());
     let mut names: Vec<&str> = SUMMARY.split(',').collect();
@@ -353,10 +355,6 @@ fn every_number_of_a_row() {
         log.as_bytes(),
     );
     let rows = csv(&text(&output.stdout));
-    let value = |name: &str| {
-        let place = rows[0].iter().position(|field| field == name).expect(name);
-        rows[1][place].as_str()
-    };
     for (name, expected) in [
         ("begins", "2"),
         ("closings", "2"),
@@ -386,7 +384,7 @@ fn every_number_of_a_row() {
         ("before_begin", "3"),
         ("cut", ""),
     ] {
-        assert_eq!(value(name), expected, "{name}");
+        assert_eq!(value(&rows, 1, name), expected, "{name}");
     }
 }
 

@@ -327,3 +327,16 @@ fn a_line_that_the_log_does_not_have() {
     line(&answer("999"), "The log's last call is line 6.");
     assert!(!answer("6").contains("The log's last call"));
 }
+
+/// A part that starts before the log does starts with it, in the replay as in the picture.
+#[test]
+fn a_part_from_before_the_first_begin() {
+    let late = CHARGE.replace(" 0 32000", " 5 32000");
+    let part = ["replay", "-", "--from", "0", "--to", "10"];
+    assert_eq!(rows(&part, &late), ["1", "2", "3"]);
+    let svg = answer(
+        &["plot", "-", "-o", "-", "--from", "0", "--to", "10"],
+        &late,
+    );
+    assert!(svg.contains(">3 calls, 5 to 10 ms:"), "{svg}");
+}

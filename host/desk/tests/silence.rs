@@ -380,6 +380,7 @@ fn nothing_has_begun() {
     let advice = "it looks like milliseconds since 1970 (2025-11-13T02:13:20.000Z): count milliseconds from the post's start";
     for words in [
         &["why", "-", "--at", "5"][..],
+        &["why", "-", "--line", "2"],
         &["plot", "-", "-o", "-"],
         &["plot", "-", "-o", "-", "--from", "5"],
     ] {
@@ -392,4 +393,15 @@ fn nothing_has_begun() {
     }
     let row = answer(&["summary", "-"], log);
     assert!(row.ends_with(" (no begin was accepted)\n"), "{row}");
+}
+
+/// Up to a second from one refused time to the next is a step; more is a jump of the clock.
+#[test]
+fn the_longest_step_of_a_stray_clock() {
+    let silence = |step: u64| {
+        let refused = format!("tick 2000000000000\ntick {}\n", 2_000_000_000_000 + step);
+        answer(&["replay", "-"], &format!("{CHARGE}{refused}")).contains("silence   1 time")
+    };
+    assert_eq!((silence(100), silence(101)), (false, true));
+    assert_eq!((silence(1_000), silence(1_001)), (true, false));
 }

@@ -3,14 +3,11 @@
 use super::clock::Clock;
 use super::track::Run;
 use super::window::Window;
-use crate::case::{Case, Seen, What};
+use crate::case::{Case, Seen, What, AHEAD};
 use crate::contact::{Event, Failing, Fails};
 use crate::lists::Moment;
 use crate::recorded::Difference;
 use chuldariin_log::Told;
-
-/// A record that is further ahead of the calls stretches the axis no more, ms: it may be of another clock.
-const AHEAD: u64 = 10_000;
 
 /// A time in which the contact does not follow its command.
 pub struct Failed {
@@ -49,6 +46,7 @@ impl Records {
             let list = now.list - u32::from(begins && now.list > 1);
             self.fail(&failing, long, list, clock, window);
         }
+        // One that is far ahead of the calls does not stretch the axis further.
         let moment = match seen.what {
             What::Contact(_) | What::Panel(_) => Moment {
                 list: now.list,

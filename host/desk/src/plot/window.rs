@@ -66,7 +66,7 @@ impl Window {
         let Some(first) = lists.get(1) else {
             return Err(NothingThere::NotAccepted(lists.not_begun()).into());
         };
-        let early = |ask: &Ask| is_early(&lists, *ask);
+        let early = |ask: &Ask| lists.is_early(*ask);
         if let Some(to) = part.1.filter(early) {
             return Err(NothingThere::Before(to.to_string(), first.begin.to_string()).into());
         }
@@ -102,12 +102,6 @@ impl Window {
     pub fn overlaps(&self, from: u64, to: u64) -> bool {
         self.from.is_none_or(|start| start.at < to) && self.to.is_none_or(|end| from < end.at)
     }
-}
-
-/// A bare time before the first begin, that fits no other list.
-fn is_early(lists: &Lists, ask: Ask) -> bool {
-    let begin = lists.get(1).map_or(0, |first| first.begin);
-    matches!(ask, Ask::Time(time) if time < begin) && lists.find(ask).is_err()
 }
 
 fn find(lists: &Lists, option: &str, ask: Option<Ask>) -> Result<Option<Place>, Box<dyn Error>> {
