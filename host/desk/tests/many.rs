@@ -6,11 +6,12 @@ use tool::{file, line, name, run, text, tool, CHARGE};
 
 mod tool;
 
-/// Logs from the worst to the best: not replayed, a welded contact, a reply that differs, a worn plug, a silence, a
+/// Logs from the worst to the best: not replayed, nothing begun, a welded contact, a reply that differs, a worn plug, a silence, a
 /// refusal, a van that ends its charge.
 fn logs() -> Vec<(&'static str, String)> {
     vec![
         ("torn.log", "step\n".to_string()),
+        ("epoch.log", "begin 1763000000000 32000 0 no\n".to_string()),
         (
             "welded.log",
             format!("{CHARGE}contact 45 closed\ntick 121\ntick 300\n"),
