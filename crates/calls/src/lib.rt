@@ -1,3 +1,4 @@
+#![tactic(auto)]
 // The calls by value: each takes the controller, and hands back the next one with the reply.
 ghost use Rattle.rules.specs.Calls.{sample, limit, measure, link, fault, clear, tick};
 ghost use Rattle.rules.specs.Lines.{on_line1};
@@ -17,7 +18,7 @@ mod shown; // shown.rt: the reply
 
 // What a call hands back: the controller after it, and the reply.
 #[repr(C)]
-#[derive(Drop)]
+#[derive(Clone, Copy)]
 pub struct Answer {
     pub controller: Controller,
     pub reply: Reply,

@@ -10,7 +10,7 @@ use units::Milliamps;
 
 // What a van reads from a duty.
 #[repr(C)]
-#[derive(Drop)]
+#[derive(Clone, Copy)]
 pub struct ReadingReply {
     // 0, or refusal 9.
     pub refusal: u8,
@@ -22,7 +22,7 @@ pub struct ReadingReply {
 
 // The greatest duty for an available current.
 #[repr(C)]
-#[derive(Drop)]
+#[derive(Clone, Copy)]
 pub struct DutyReply {
     // 0, or refusal 10.
     pub refusal: u8,

@@ -1,3 +1,4 @@
+#![tactic(auto)]
 // The calls as the host makes them: each is lent the controller, runs the call by value, and stores what it hands back.
 ghost use Rattle.rules.specs.Calls.{sample, limit, measure, link, fault, clear, tick};
 ghost use Rattle.rules.specs.Lines.{on_line1};

@@ -1,3 +1,4 @@
+#![tactic(auto)]
 // The controller of a charging post: one struct, and its five steps.
 ghost use Rattle.std.specs.Prelude.{◌≡◌};
 ghost use Rattle.parts.specs.Views.{as_settings};
@@ -18,7 +19,7 @@ mod steps; // steps.rt: the steps of an accepted call
 // What the host keeps, and lends to each call. In this order it takes 128 bytes, up to which it is copied without a call of memcpy
 // (DECISIONS, 80 and 94).
 #[repr(C)]
-#[derive(Drop)]
+#[derive(Clone, Copy)]
 pub struct Controller {
     pub settings: Settings,
     // The depot's limit.

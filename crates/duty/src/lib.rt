@@ -1,3 +1,4 @@
+#![tactic(auto)]
 // Duty and current: what a duty tells a van, and the greatest duty for an available current. The tables named here are those of IEC 61851-1 Annex A
 // (draft for Edition 3).
 ghost use Rattle.std.specs.Prelude.{◌≡◌};
@@ -8,7 +9,7 @@ ghost use Rattle.duty.specs.Numbers.{as_reads, as_sends};
 use units::Milliamps;
 
 // What a duty tells a van.
-#[derive(Drop)]
+#[derive(Clone, Copy)]
 pub enum Reading {
     NoCharging,
     DigitalOnly,
@@ -18,7 +19,7 @@ pub enum Reading {
 }
 
 // The greatest duty for an available current.
-#[derive(Drop)]
+#[derive(Clone, Copy)]
 pub enum Greatest {
     Duty(u32),
     // Refusal 10: the current is below 6,000.

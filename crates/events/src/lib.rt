@@ -1,3 +1,4 @@
+#![tactic(auto)]
 // Step 1 of an accepted call: its event. A call's kind and arguments, and what each kind does.
 ghost use Rattle.std.specs.Prelude.{◌≡◌};
 ghost use Rattle.duty.specs.Numbers.{as_reads};
@@ -22,7 +23,7 @@ use units::{Milliamps, Millis, conditions};
 use window::Evaluated;
 
 // Kind and arguments of a call.
-#[derive(Drop)]
+#[derive(Clone, Copy)]
 pub enum Event {
     Sample(Evaluated),
     // The depot's limit.

@@ -1,3 +1,4 @@
+#![tactic(auto)]
 // The latched faults, in the order in which they were latched.
 ghost use Rattle.std.specs.Prelude.{◌≡◌, cond};
 ghost use Rattle.rules.specs.Faults.{number_of, no_faults, place_of, is_place, count_of, any_fault, how_many, put_at, latch, latch_if, lowest, first_of};
@@ -8,7 +9,7 @@ ghost use Rattle.faults.specs.Views.{as_fault, as_faults};
 use units::conditions;
 
 // The faults, by their numbers 1 to 5.
-#[derive(Drop)]
+#[derive(Clone, Copy)]
 pub enum Fault {
     Diode,
     Overcurrent,
@@ -19,7 +20,7 @@ pub enum Fault {
 
 // The place of each fault in the order: 1 for the one that was latched first, 2 for the next; 0 for one that is not latched.
 #[repr(C)]
-#[derive(Drop)]
+#[derive(Clone, Copy)]
 pub struct Faults {
     // 1: no diode
     pub diode: u8,

@@ -1,3 +1,4 @@
+#![tactic(auto)]
 // Bench figures, faults seen in the field and the table of refusals, through the proved functions. The rows stand in the file stdin;
 // each is written as it stands, with the answer beside it, and what is written is held to the file stdout.
 mod lend;
@@ -16,7 +17,7 @@ fn main() {
 }
 
 // The controller that the last row handed back, and the one that is kept.
-#[derive(Drop)]
+#[derive(Clone, Copy)]
 struct Post {
     controller: Controller,
     kept: Controller,

@@ -6,7 +6,7 @@ ghost use Rattle.parts.specs.Views.{as_lines};
 use units::{Milliamps, conditions};
 
 #[repr(C)]
-#[derive(Drop)]
+#[derive(Clone, Copy)]
 pub struct Lines {
     pub line1: Milliamps,
     pub line2: Milliamps,

@@ -9,7 +9,7 @@ use units::{Millis, conditions};
 
 // A time that is set, or none. The number of an empty one says nothing.
 #[repr(C)]
-#[derive(Drop)]
+#[derive(Clone, Copy)]
 pub struct Moment {
     pub set: bool,
     pub time: Millis,

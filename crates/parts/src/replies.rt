@@ -9,7 +9,7 @@ use crate::samples;
 use units::conditions;
 
 #[repr(C)]
-#[derive(Drop)]
+#[derive(Clone, Copy)]
 pub struct Reply {
     // 0 if the call was accepted
     pub refusal: u8,

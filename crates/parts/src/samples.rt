@@ -10,14 +10,14 @@ use units::conditions;
 
 // The previous sample with its verdict, or none.
 #[repr(C)]
-#[derive(Drop)]
+#[derive(Clone, Copy)]
 pub struct Previous {
     pub kept: bool,
     pub verdict: Verdict,
 }
 
 // A call's own verdict, and the previous sample as the call finds it.
-#[derive(Drop)]
+#[derive(Clone, Copy)]
 pub struct Pair {
     pub sampled: bool,
     pub this: Verdict,

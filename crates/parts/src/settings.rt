@@ -7,7 +7,7 @@ use units::{Milliamps, Millis};
 
 // The pause stands first, so that these take 16 bytes (DECISIONS, 80).
 #[repr(C)]
-#[derive(Drop)]
+#[derive(Clone, Copy)]
 pub struct Settings {
     // In a controller, as it is in force; as given to begin, 0 asks for 10,000.
     pub pause: Millis,

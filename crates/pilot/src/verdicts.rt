@@ -7,7 +7,7 @@ use units::{Millivolts, conditions};
 
 // What is kept of a sample: its band, as a letter in ASCII or 0 for none, and the three verdicts.
 #[repr(C)]
-#[derive(Drop)]
+#[derive(Clone, Copy)]
 pub struct Verdict {
     pub band: u8,
     pub sound: bool,

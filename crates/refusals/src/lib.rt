@@ -1,3 +1,4 @@
+#![tactic(auto)]
 // What a call is refused for: 3, then 2, then by number, but 12 before 11; 0 if it is accepted.
 ghost use Rattle.std.specs.Prelude.{◌≡◌, cond};
 ghost use Rattle.window.specs.Numbers.{as_evaluation};

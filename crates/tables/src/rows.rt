@@ -2,7 +2,7 @@
 use crate::text::Token;
 use crate::{readings, text, words};
 
-#[derive(Drop)]
+#[derive(Clone, Copy)]
 pub struct Row {
     // The word, 0 where the row is not understood, and what follows it.
     pub word: u64,

@@ -21,7 +21,7 @@ pub fn end(text: &[u8], from: usize, stop: u8) -> usize
 }
 
 // A word or a number of a line.
-#[derive(Drop)]
+#[derive(Clone, Copy)]
 pub struct Token {
     // What the line has up to here: 10,000 for each word, 100 for each number, 1 for each number below 0 or run of readings.
     pub form: u64,

@@ -1,3 +1,4 @@
+#![tactic(auto)]
 // The units of the control pilot: level, current and time. Each is a type of its own, so that the compiler refuses one in the
 // place of another. A duty, and so a wave command, is a plain number: tenths of a percent.
 pub mod conditions; // conditions.rt: conditions put together
@@ -9,17 +10,17 @@ ghost use Rattle.units.specs.Wave.{driven, five_percent, driven_in};
 
 // A level of the control pilot, in millivolts.
 #[repr(C)]
-#[derive(Drop)]
+#[derive(Clone, Copy)]
 pub struct Millivolts(pub i32);
 
 // A current, in milliamps.
 #[repr(C)]
-#[derive(Drop)]
+#[derive(Clone, Copy)]
 pub struct Milliamps(pub u32);
 
 // A point in time or a span of time, in milliseconds.
 #[repr(C)]
-#[derive(Drop)]
+#[derive(Clone, Copy)]
 pub struct Millis(pub u64);
 
 fn pick(first: bool, a: Millivolts, b: Millivolts) -> Millivolts
@@ -42,6 +43,7 @@ impl Millivolts {
     }
 
     // From one end to the other; the ends belong.
+    #[tactic(auto, unfolding(crate::specs::Range::within))]
     pub fn within(self, from: Millivolts, to: Millivolts) -> bool
         ensures { result ≡ within from.0 to.0 self.0 }
     {
@@ -51,6 +53,7 @@ impl Millivolts {
     }
 
     // Between two levels; the ends do not belong.
+    #[tactic(auto, unfolding(crate::specs::Range::strictly_between))]
     pub fn strictly_between(self, from: Millivolts, to: Millivolts) -> bool
         ensures { result ≡ strictly_between from.0 to.0 self.0 }
     {
@@ -59,6 +62,7 @@ impl Millivolts {
         conditions::both(above, below)
     }
 
+    #[tactic(auto, unfolding(crate::specs::Range::higher))]
     pub fn higher(self, other: Millivolts) -> Millivolts
         ensures { result.0 ≡ higher self.0 other.0 }
     {
@@ -66,6 +70,7 @@ impl Millivolts {
         pick(not_below, self, other)
     }
 
+    #[tactic(auto, unfolding(crate::specs::Range::lower))]
     pub fn lower(self, other: Millivolts) -> Millivolts
         ensures { result.0 ≡ lower self.0 other.0 }
     {
@@ -88,6 +93,7 @@ impl Milliamps {
     }
 
     // From one end to the other; the ends belong.
+    #[tactic(auto, unfolding(crate::specs::Range::from_to))]
     pub fn within(self, from: Milliamps, to: Milliamps) -> bool
         ensures { result ≡ from_to from.0 to.0 self.0 }
     {
@@ -130,6 +136,7 @@ impl Millis {
     }
 
     // From one end to the other; the ends belong.
+    #[tactic(auto, unfolding(crate::specs::Range::from_to))]
     pub fn within(self, from: Millis, to: Millis) -> bool
         ensures { result ≡ from_to from.0 to.0 self.0 }
     {
@@ -167,6 +174,7 @@ impl Millis {
 }
 
 // The wave command is driven in every post: 100 to 960.
+#[tactic(auto, unfolding(crate::specs::Wave::driven, crate::specs::Range::from_to))]
 pub fn driven(wave: u32) -> bool
     ensures { result ≡ driven wave }
 {
@@ -181,6 +189,7 @@ pub fn is_five_percent(wave: u32) -> bool
 }
 
 // The wave command is driven, by the post's mark.
+#[tactic(auto, unfolding(crate::specs::Wave::driven_in, crate::specs::Wave::driven, crate::specs::Range::from_to))]
 pub fn driven_in(digital: bool, wave: u32) -> bool
     ensures { result ≡ driven_in digital wave }
 {

@@ -1,3 +1,4 @@
+#![tactic(auto)]
 // Step 3 of an accepted call: the wave, and what follows from it for the over-run and the stop.
 ghost use Rattle.std.specs.Prelude.{◌≡◌, cond, eqb};
 ghost use Rattle.units.specs.Wave.{steady_low, steady_high};

@@ -1,3 +1,4 @@
+#![tactic(auto)]
 // A window of readings to the high and the low level. A level needs support: one stray reading makes none.
 use units::Millivolts;
 
@@ -10,7 +11,7 @@ ghost use Rattle.window.specs.Evaluation.{evaluate};
 ghost use Rattle.window.specs.Numbers.{as_evaluation};
 
 // What a window tells.
-#[derive(Drop)]
+#[derive(Clone, Copy)]
 pub enum Evaluated {
     Levels { high: Millivolts, low: Millivolts },
     // Refusal 4: not 256 to 1,024 readings.

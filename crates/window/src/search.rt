@@ -10,7 +10,7 @@ use crate::support::{near, needed};
 use units::Millivolts;
 
 // The levels of the readings evaluated so far.
-#[derive(Drop)]
+#[derive(Clone, Copy)]
 enum Found {
     Nothing,
     Levels { high: Millivolts, low: Millivolts },
