@@ -27,6 +27,7 @@ pub enum Greatest {
 }
 
 // What a van reads from a duty, which is in tenths of a percent: the rows of table A3.9, in its order.
+#[tactic(auto, unfolding(crate::specs::Reading::reading_of, units::specs::Range::from_to))]
 pub fn reading_of(duty: u32) -> Reading
     ensures { as_reads result ≡ reading_of duty }
 {

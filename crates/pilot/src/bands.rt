@@ -31,6 +31,7 @@ fn letter(a: bool, b: bool, c: bool, d: bool, e: bool) -> u8
 }
 
 // The band of a high level, as a letter in ASCII, or 0 for none.
+#[tactic(auto, unfolding(crate::specs::Bands::band_of, units::specs::Range::within))]
 pub fn band(high: Millivolts) -> u8
     ensures { result ≡ band_of high.0 }
 {
@@ -43,6 +44,7 @@ pub fn band(high: Millivolts) -> u8
 }
 
 // A van in this band is ready to charge.
+#[tactic(auto, unfolding(crate::specs::Bands::ready))]
 pub fn ready(band: u8, ventilation: bool) -> bool
     ensures { result ≡ ready band ventilation }
 {
@@ -54,6 +56,7 @@ pub fn ready(band: u8, ventilation: bool) -> bool
 }
 
 // The bands in which a diode shows.
+#[tactic(auto, unfolding(crate::specs::Bands::is_bcd))]
 pub fn is_b_c_or_d(band: u8) -> bool
     ensures { result ≡ is_bcd band }
 {

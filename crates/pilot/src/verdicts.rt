@@ -36,6 +36,7 @@ fn diode_bad_by(driven: bool, bcd: bool, low: bool) -> bool
 }
 
 // Sound: high as a charging van holds it, with a margin; while the wave is driven, low in its band too.
+#[tactic(auto, unfolding(crate::specs::Verdicts::sound, units::specs::Range::strictly_between, units::specs::Range::within))]
 pub fn sound(driven: bool, high: Millivolts, low: Millivolts) -> bool
     ensures { result ≡ sound driven high.0 low.0 }
 {
@@ -45,6 +46,7 @@ pub fn sound(driven: bool, high: Millivolts, low: Millivolts) -> bool
 }
 
 // Proven: a driven wave shows both a ready van and its diode.
+#[tactic(auto, unfolding(crate::specs::Verdicts::proven, crate::specs::Bands::ready, crate::specs::Bands::band_of, units::specs::Range::within))]
 pub fn proven(driven: bool, high: Millivolts, low: Millivolts, ventilation: bool) -> bool
     ensures { result ≡ proven driven high.0 low.0 ventilation }
 {
@@ -55,6 +57,7 @@ pub fn proven(driven: bool, high: Millivolts, low: Millivolts, ventilation: bool
 }
 
 // Diode-bad: a driven wave shows a van that is plugged in, and no diode.
+#[tactic(auto, unfolding(crate::specs::Verdicts::diode_bad, crate::specs::Bands::is_bcd, crate::specs::Bands::band_of, units::specs::Range::within))]
 pub fn diode_bad(driven: bool, high: Millivolts, low: Millivolts) -> bool
     ensures { result ≡ diode_bad driven high.0 low.0 }
 {
@@ -65,6 +68,7 @@ pub fn diode_bad(driven: bool, high: Millivolts, low: Millivolts) -> bool
 }
 
 // The band and the verdicts of a sample, by whether the wave commanded before it is driven.
+#[tactic(auto, unfolding(crate::specs::Verdicts::verdict_of))]
 pub fn judge(driven: bool, high: Millivolts, low: Millivolts, ventilation: bool) -> Verdict
     ensures { result ≡ verdict_of driven high.0 low.0 ventilation }
 {

@@ -26,6 +26,7 @@ fn answer(found: Found) -> Evaluated
 }
 
 // A level lies within the levels found so far.
+#[tactic(auto, unfolding(crate::specs::Search::inside, units::specs::Range::within))]
 fn inside(found: Found, level: Millivolts) -> bool
     ensures { result ≡ inside (as_found found) level.0 }
 {
@@ -36,6 +37,7 @@ fn inside(found: Found, level: Millivolts) -> bool
 }
 
 // The levels found so far, with one more supported reading.
+#[tactic(auto, unfolding(crate::specs::Search::widen, units::specs::Range::higher, units::specs::Range::lower))]
 fn widened(found: Found, level: Millivolts) -> Found
     ensures { as_found result ≡ widen (as_found found) level.0 }
 {

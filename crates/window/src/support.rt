@@ -21,6 +21,7 @@ fn at_most_200(difference: i64) -> bool
 }
 
 // Two readings differ by at most 200 mV.
+#[tactic(auto, unfolding(crate::specs::Support::near))]
 pub fn near(a: Millivolts, b: Millivolts) -> bool
     ensures { result ≡ near a.0 b.0 }
 {
@@ -28,6 +29,7 @@ pub fn near(a: Millivolts, b: Millivolts) -> bool
 }
 
 // How many supporters a reading needs in a window of n readings (DECISIONS, 8).
+#[tactic(auto, unfolding(crate::specs::Support::needed))]
 pub fn needed(n: usize) -> usize
     ensures { result ≡ needed n }
 {
