@@ -48,6 +48,7 @@ impl Faults {
     }
 
     // Some fault is latched.
+    #[tactic(auto, unfolding(rules::specs::Faults::any_fault))]
     pub fn any(self) -> bool
         ensures { result ≡ any_fault (as_faults self) }
     {
@@ -61,6 +62,7 @@ impl Faults {
     }
 
     // How many are latched.
+    #[tactic(auto, unfolding(rules::specs::Faults::how_many))]
     fn how_many(self) -> u8
         ensures { result ≡ how_many (as_faults self) }
     {
@@ -85,6 +87,7 @@ impl Faults {
     }
 
     // One fault put at a place.
+    #[tactic(auto, unfolding(rules::specs::Faults::put_at))]
     fn put_at(mut self, fault: Fault, place: u8) -> Faults
         ensures { as_faults result ≡ put_at (as_fault fault) place (as_faults self) }
     {
@@ -98,6 +101,7 @@ impl Faults {
     }
 
     // A fault latches: it comes behind those that are latched. Told again, it keeps its place (DECISIONS, 101).
+    #[tactic(auto, unfolding(rules::specs::Faults::latch))]
     fn latch(self, fault: Fault) -> Faults
         ensures { as_faults result ≡ latch (as_fault fault) (as_faults self) }
     {
@@ -118,6 +122,7 @@ impl Faults {
     }
 
     // A fault call's own fault latches.
+    #[tactic(auto, unfolding(rules::specs::Step1Event::with_kind))]
     pub fn with_kind(self, kind: u32) -> Faults
         ensures { as_faults result ≡ with_kind kind (as_faults self) }
     {
@@ -135,6 +140,7 @@ impl Faults {
     }
 
     // Some latched fault, here the lowest; 0 if none is.
+    #[tactic(auto, unfolding(rules::specs::Faults::lowest))]
     fn lowest(self) -> u8
         ensures { result ≡ lowest (as_faults self) }
     {
@@ -147,6 +153,7 @@ impl Faults {
     }
 
     // The first of the order; some latched fault where the first place is empty, and 0 if none is latched (DECISIONS, 102).
+    #[tactic(auto, unfolding(rules::specs::Faults::first_of))]
     pub fn first(self) -> u8
         ensures { result ≡ first_of (as_faults self) }
     {

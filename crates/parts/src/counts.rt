@@ -14,6 +14,7 @@ fn one_more(closings: u32) -> u32
 }
 
 // Grows by 1 with a closing.
+#[tactic(auto, unfolding(crate::specs::Counted::counted))]
 pub fn counted(closing: bool, closings: u32) -> u32
     ensures { result ≡ counted closing closings }
 {

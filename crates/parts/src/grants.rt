@@ -7,6 +7,7 @@ ghost use Rattle.rules.specs.Step5Closing.{has_grant};
 use units::{Milliamps, conditions};
 
 // The range of a grant.
+#[tactic(auto, unfolding(rules::specs::Refusals::grant_allowed))]
 pub fn grant_allowed(granted: Milliamps) -> bool
     ensures { result ≡ grant_allowed granted.0 }
 {
@@ -14,6 +15,7 @@ pub fn grant_allowed(granted: Milliamps) -> bool
 }
 
 // A digital post closes with at least 6,000.
+#[tactic(auto, unfolding(rules::specs::Step5Closing::has_grant))]
 pub fn has_grant(digital: bool, grant: Milliamps) -> bool
     ensures { result ≡ has_grant digital grant.0 }
 {
@@ -22,6 +24,7 @@ pub fn has_grant(digital: bool, grant: Milliamps) -> bool
 }
 
 // Closed with less, it stops its van.
+#[tactic(auto, unfolding(rules::specs::Step3Wave::low_grant))]
 pub fn low_grant(digital: bool, closed: bool, grant: Milliamps) -> bool
     ensures { result ≡ low_grant digital closed grant.0 }
 {

@@ -14,6 +14,7 @@ pub struct Lines {
 }
 
 // The range of each of the three.
+#[tactic(auto, unfolding(rules::specs::Lines::line_allowed))]
 fn line_allowed(current: Milliamps) -> bool
     ensures { result ≡ line_allowed current.0 }
 {
@@ -54,6 +55,7 @@ impl Lines {
     }
 
     // What is judged for an over-run.
+    #[tactic(auto, unfolding(rules::specs::Lines::largest))]
     pub fn largest(self) -> Milliamps
         ensures { result.0 ≡ largest (as_lines self) }
     {
@@ -62,6 +64,7 @@ impl Lines {
     }
 
     // None of them is above the range.
+    #[tactic(auto, unfolding(rules::specs::Lines::lines_allowed))]
     pub fn allowed(self) -> bool
         ensures { result ≡ lines_allowed (as_lines self) }
     {

@@ -46,6 +46,7 @@ impl Moment {
     }
 
     // It runs, and began that long ago or longer.
+    #[tactic(auto, unfolding(rules::specs::Step2Latches::ran_for))]
     pub fn ran_for(self, span: Millis, time: Millis) -> bool
         ensures { result ≡ ran_for span.0 time.0 (as_moment self) }
     {
@@ -70,6 +71,7 @@ impl Moment {
     }
 
     // Not above the last accepted time; an empty one is no stored time.
+    #[tactic(auto, unfolding(rules::specs::Altered::stored_allowed))]
     pub fn stored_allowed(self, last: Millis) -> bool
         ensures { result ≡ stored_allowed last.0 (as_moment self) }
     {

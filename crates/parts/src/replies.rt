@@ -38,6 +38,7 @@ fn letter_by(faulted: bool, known: bool, settled: u8) -> u8
 }
 
 // F under a fault, and U where nothing is settled.
+#[tactic(auto, unfolding(rules::specs::Reply::letter))]
 pub fn letter(faulted: bool, settled: u8) -> u8
     ensures { result ≡ letter faulted settled }
 {
@@ -58,6 +59,7 @@ fn digit_by(without: bool, driven: bool) -> u8
 }
 
 // 0 for U, E and F, else 2 with a driven wave and 1 without.
+#[tactic(auto, unfolding(rules::specs::Reply::digit, rules::specs::Reply::letter))]
 pub fn digit(letter: u8, driven: bool) -> u8
     ensures { result ≡ digit letter driven }
 {

@@ -87,6 +87,7 @@ pub fn pick(first: bool, a: Previous, b: Previous) -> Previous
 }
 
 // Two samples without a band are not in one.
+#[tactic(auto, unfolding(rules::specs::Pairs::same_band))]
 fn same_band(a: u8, b: u8) -> bool
     ensures { result ≡ same_band a b }
 {
@@ -97,12 +98,14 @@ fn same_band(a: u8, b: u8) -> bool
 
 impl Pair {
     // A sample call with a partner.
+    #[tactic(auto, unfolding(rules::specs::Pairs::paired))]
     fn paired(self) -> bool
         ensures { result ≡ paired (as_pair self) }
     {
         conditions::both(self.sampled, self.previous.kept)
     }
 
+    #[tactic(auto, unfolding(rules::specs::Pairs::in_one_band))]
     pub fn in_one_band(self) -> bool
         ensures { result ≡ in_one_band (as_pair self) }
     {
@@ -112,6 +115,7 @@ impl Pair {
     }
 
     // Both proven in the same band.
+    #[tactic(auto, unfolding(rules::specs::Pairs::both_proven))]
     pub fn both_proven(self) -> bool
         ensures { result ≡ both_proven (as_pair self) }
     {
@@ -119,6 +123,7 @@ impl Pair {
         conditions::all(in_one, self.previous.verdict.proven, self.this.proven)
     }
 
+    #[tactic(auto, unfolding(rules::specs::Pairs::both_diode_bad))]
     pub fn both_diode_bad(self) -> bool
         ensures { result ≡ both_diode_bad (as_pair self) }
     {
@@ -126,6 +131,7 @@ impl Pair {
         conditions::all(paired, self.previous.verdict.diodebad, self.this.diodebad)
     }
 
+    #[tactic(auto, unfolding(rules::specs::Pairs::both_unsound))]
     pub fn both_unsound(self) -> bool
         ensures { result ≡ both_unsound (as_pair self) }
     {
@@ -135,6 +141,7 @@ impl Pair {
 }
 
 // A settled state: one of A to E.
+#[tactic(auto, unfolding(rules::specs::Step3Wave::is_settled, units::specs::Range::from_to))]
 pub fn is_settled(settled: u8) -> bool
     ensures { result ≡ is_settled settled }
 {

@@ -17,6 +17,7 @@ pub struct Settings {
     pub digital: bool,
 }
 
+#[tactic(auto, unfolding(rules::specs::Begin::rated_allowed))]
 pub fn rated_allowed(rated: Milliamps) -> bool
     ensures { result ≡ rated_allowed rated.0 }
 {
@@ -24,6 +25,7 @@ pub fn rated_allowed(rated: Milliamps) -> bool
 }
 
 // The range of a pause in force.
+#[tactic(auto, unfolding(rules::specs::Begin::pause_allowed))]
 pub fn pause_allowed(pause: Millis) -> bool
     ensures { result ≡ pause_allowed pause.0 }
 {
@@ -38,6 +40,7 @@ pub fn asks_default(pause: Millis) -> bool
 }
 
 // The pause in force: 0 means 10,000.
+#[tactic(auto, unfolding(rules::specs::Begin::pause_for))]
 fn pause_for(pause: Millis) -> Millis
     ensures { result.0 ≡ pause_for pause.0 }
 {
