@@ -66,6 +66,7 @@ pub fn is_fault(event: Event) -> bool
     }
 }
 
+#[tactic(auto, unfolding(rules::specs::Pairs::window_verdict))]
 fn judged(window: Evaluated, driven: bool, ventilation: bool) -> Verdict
     ensures { result ≡ window_verdict driven ventilation (as_evaluation window) }
 {
@@ -78,6 +79,7 @@ fn judged(window: Evaluated, driven: bool, ventilation: bool) -> Verdict
 }
 
 // A sample's verdict: its levels, judged by whether the wave is driven and by the ventilation, as the call finds them.
+#[tactic(auto, unfolding(rules::specs::Pairs::verdict))]
 pub fn verdict_of(event: Event, driven: bool, ventilation: bool) -> Verdict
     ensures { (s : State) → is_driven s ≡ driven → s.settings.ventilation ≡ ventilation → result ≡ verdict s (as_event event) }
 {
@@ -93,6 +95,7 @@ pub fn verdict_of(event: Event, driven: bool, ventilation: bool) -> Verdict
 }
 
 // Settling: by a pair in one band.
+#[tactic(auto, unfolding(rules::specs::Step1Event::settled_by))]
 pub fn settled_by(pair: Pair, settled: u8) -> u8
     ensures { result ≡ settled_by (as_pair pair) settled }
 {
@@ -101,6 +104,7 @@ pub fn settled_by(pair: Pair, settled: u8) -> u8
 }
 
 // The time of the last sound sample.
+#[tactic(auto, unfolding(rules::specs::Step1Event::sound_by))]
 pub fn sound_by(time: Millis, pair: Pair, sound: Moment) -> Moment
     ensures { as_moment result ≡ sound_by time.0 (as_pair pair) (as_moment sound) }
 {
@@ -110,6 +114,7 @@ pub fn sound_by(time: Millis, pair: Pair, sound: Moment) -> Moment
 }
 
 // Limit stored.
+#[tactic(auto, unfolding(rules::specs::Step1Event::limit_by))]
 pub fn limit_by(event: Event, stored: Milliamps) -> Milliamps
     ensures { result.0 ≡ limit_by (as_event event) stored.0 }
 {
@@ -125,6 +130,7 @@ pub fn limit_by(event: Event, stored: Milliamps) -> Milliamps
 }
 
 // A link call stores its grant.
+#[tactic(auto, unfolding(rules::specs::Step1Event::grant_stored))]
 fn grant_stored(event: Event, stored: Milliamps) -> Milliamps
     ensures { result.0 ≡ grant_stored (as_event event) stored.0 }
 {
@@ -140,6 +146,7 @@ fn grant_stored(event: Event, stored: Milliamps) -> Milliamps
 }
 
 // The grant: 0 with A settled, which is the state after settling, else as stored.
+#[tactic(auto, unfolding(rules::specs::Step1Event::grant_by))]
 pub fn grant_by(event: Event, settled: u8, stored: Milliamps) -> Milliamps
     ensures { result.0 ≡ grant_by (as_event event) settled stored.0 }
 {
@@ -163,6 +170,7 @@ fn is_measure(event: Event) -> bool
 }
 
 // The currents of a measure; 0 where the call is no measure.
+#[tactic(auto, unfolding(rules::specs::Step1Event::lines_by))]
 fn lines_of(event: Event) -> Lines
     ensures { as_lines result ≡ lines_by (as_event event) no_currents }
 {
@@ -178,6 +186,7 @@ fn lines_of(event: Event) -> Lines
 }
 
 // A measure's currents are kept, whatever the contactor and the wave: chosen line by line, for speed (DECISIONS, 40).
+#[tactic(auto, unfolding(rules::specs::Step1Event::lines_by))]
 pub fn lines_by(event: Event, stored: Lines) -> Lines
     ensures { as_lines result ≡ lines_by (as_event event) (as_lines stored) }
 {
@@ -187,6 +196,7 @@ pub fn lines_by(event: Event, stored: Lines) -> Lines
 }
 
 // Latching by a fault call, and clear.
+#[tactic(auto, unfolding(rules::specs::Step1Event::faults_by))]
 pub fn faults_by(event: Event, faults: Faults) -> Faults
     ensures { as_faults result ≡ faults_by (as_event event) (as_faults faults) }
 {
@@ -202,6 +212,7 @@ pub fn faults_by(event: Event, faults: Faults) -> Faults
 }
 
 // The current that a reading tells; 0 where it tells none.
+#[tactic(auto, unfolding(rules::specs::Step1Event::current_of))]
 fn current_of(reading: Reading) -> Milliamps
     ensures { result.0 ≡ current_of (as_reads reading) }
 {
@@ -214,6 +225,7 @@ fn current_of(reading: Reading) -> Milliamps
 }
 
 // The current that the van may draw by the wave.
+#[tactic(auto, unfolding(rules::specs::Step1Event::announced))]
 fn announced(wave: u32) -> Milliamps
     ensures { result.0 ≡ announced wave }
 {
@@ -222,6 +234,7 @@ fn announced(wave: u32) -> Milliamps
 }
 
 // What an over-run is judged against: the wave's reading in a plain post, the least of grant, rated and limit in a digital one.
+#[tactic(auto, unfolding(rules::specs::Step1Event::allowed_by))]
 fn allowed_by(digital: bool, least: Milliamps, wave: u32) -> Milliamps
     ensures { result.0 ≡ allowed_by digital least.0 wave }
 {
@@ -230,6 +243,7 @@ fn allowed_by(digital: bool, least: Milliamps, wave: u32) -> Milliamps
 }
 
 // More than a tenth above what is allowed.
+#[tactic(auto, unfolding(rules::specs::Step1Event::is_over))]
 fn is_over(line: Milliamps, allowed: Milliamps) -> bool
     ensures { result ≡ is_over line.0 allowed.0 }
 {
@@ -249,6 +263,7 @@ fn overrun_judged(time: Millis, line: Milliamps, allowed: Milliamps, overrun: Mo
 }
 
 // A measure that is judged, by what the post allows.
+#[tactic(auto, unfolding(rules::specs::Step1Event::allowed_by))]
 fn overrun_by_allowed(
     time: Millis,
     line: Milliamps,
@@ -265,6 +280,7 @@ fn overrun_by_allowed(
 
 // A measure: on the largest of its currents, and only where it is judged; the reading of a duty is not asked elsewhere
 // (DECISIONS, 96).
+#[tactic(auto, unfolding(rules::specs::Step1Event::overrun_at, rules::specs::Lines::largest, rules::specs::Step1Event::allowed_by))]
 fn measured(
     time: Millis,
     lines: Lines,
@@ -285,6 +301,7 @@ fn measured(
 }
 
 // The over-run after the event: only a measure starts or ends it here. `least` is that of grant, rated and limit.
+#[tactic(auto, unfolding(rules::specs::Step1Event::allowed_by, rules::specs::Step1Event::overrun_by))]
 pub fn overrun_by(
     time: Millis,
     event: Event,

@@ -13,6 +13,7 @@ use parts::{moments, samples};
 use units::{Milliamps, Millis, conditions};
 
 // Settled U, A or E.
+#[tactic(auto, unfolding(rules::specs::Step3Wave::is_uae))]
 fn is_u_a_or_e(settled: u8) -> bool
     ensures { result ≡ is_uae settled }
 {
@@ -23,6 +24,7 @@ fn is_u_a_or_e(settled: u8) -> bool
 }
 
 // Settled D without ventilation.
+#[tactic(auto, unfolding(rules::specs::Step3Wave::unventilated_d))]
 pub fn unventilated_d(settled: u8, ventilation: bool) -> bool
     ensures { result ≡ unventilated_d settled ventilation }
 {
@@ -31,6 +33,7 @@ pub fn unventilated_d(settled: u8, ventilation: bool) -> bool
 }
 
 // No duty by the plain rules, though there is no fault.
+#[tactic(auto, unfolding(rules::specs::Step3Wave::no_duty))]
 pub fn no_duty(available: Milliamps, settled: u8, ventilation: bool) -> bool
     ensures { result ≡ no_duty available.0 settled ventilation }
 {
@@ -41,6 +44,7 @@ pub fn no_duty(available: Milliamps, settled: u8, ventilation: bool) -> bool
 }
 
 // The duty that is sent; where there is none the wave stays high.
+#[tactic(auto, unfolding(rules::specs::Step3Wave::sent))]
 fn sent(greatest: Greatest) -> u32
     ensures { result ≡ sent (as_sends greatest) }
 {
@@ -50,6 +54,7 @@ fn sent(greatest: Greatest) -> u32
     }
 }
 
+#[tactic(auto, unfolding(rules::specs::Step3Wave::sent, duty::specs::DutyFor::duty_for))]
 fn sent_for(available: Milliamps) -> u32
     ensures { result ≡ sent (duty_for available.0) }
 {
@@ -58,6 +63,7 @@ fn sent_for(available: Milliamps) -> u32
 }
 
 // 5 % in a digital post, else the duty for the available current.
+#[tactic(auto, unfolding(rules::specs::Step3Wave::driven_wave))]
 fn driven_wave(digital: bool, available: Milliamps) -> u32
     ensures { result ≡ driven_wave digital available.0 }
 {
@@ -78,6 +84,7 @@ fn wave_by(faulted: bool, high: bool, duty: u32) -> u32
 }
 
 // The wave of a post: steady -12 V with a fault, steady +12 V where it is held there, else the driven one.
+#[tactic(auto, unfolding(rules::specs::Step3Wave::driven_wave))]
 pub fn wave_for(faulted: bool, held: bool, digital: bool, available: Milliamps) -> u32
     ensures { result ≡ wave_of faulted held (driven_wave digital available.0) }
 {
@@ -86,6 +93,7 @@ pub fn wave_for(faulted: bool, held: bool, digital: bool, available: Milliamps) 
 }
 
 // A driven duty is lowered to another driven one: `old` is the wave as the call finds it.
+#[tactic(auto, unfolding(rules::specs::Step3Wave::lowers_duty))]
 fn lowers_duty(digital: bool, old: u32, wave: u32) -> bool
     ensures { result ≡ lowers_duty digital old wave }
 {
@@ -96,6 +104,7 @@ fn lowers_duty(digital: bool, old: u32, wave: u32) -> bool
 }
 
 // A lowered duty restarts a running over-run: the van has its 5 s to follow.
+#[tactic(auto, unfolding(rules::specs::Step3Wave::restarts))]
 fn restarts(digital: bool, old: u32, wave: u32, overrun: Moment) -> bool
     ensures { result ≡ restarts digital old wave (as_moment overrun) }
 {
@@ -104,6 +113,7 @@ fn restarts(digital: bool, old: u32, wave: u32, overrun: Moment) -> bool
 }
 
 // An over-run ends where the wave is not driven, and restarts at the call's own time where the duty is lowered.
+#[tactic(auto, unfolding(rules::specs::Step3Wave::overrun_under))]
 pub fn overrun_under(digital: bool, time: Millis, old: u32, wave: u32, overrun: Moment) -> Moment
     ensures { as_moment result ≡ overrun_under digital time.0 old wave (as_moment overrun) }
 {
@@ -122,6 +132,7 @@ fn is_high(wave: u32) -> bool
 }
 
 // A stop starts where the contactor is closed and the wave high, and ends where the wave is driven.
+#[tactic(auto, unfolding(rules::specs::Step3Wave::stop_under))]
 pub fn stop_under(digital: bool, time: Millis, wave: u32, closed: bool, stop: Moment) -> Moment
     ensures { as_moment result ≡ stop_under digital time.0 wave closed (as_moment stop) }
 {
