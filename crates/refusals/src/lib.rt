@@ -57,6 +57,7 @@ pub fn too_late(time: Millis) -> bool
 }
 
 // 3: beyond the scale of times; 2: earlier than the last accepted call.
+#[tactic(auto, unfolding(rules::specs::Refusals::time_refusal))]
 pub fn time_refusal(last: Millis, time: Millis) -> u8
     ensures { result ≡ time_refusal last.0 time.0 }
 {
@@ -65,12 +66,14 @@ pub fn time_refusal(last: Millis, time: Millis) -> u8
     first_of(late, back)
 }
 
+#[tactic(auto, unfolding(rules::specs::Refusals::limit_allowed))]
 pub fn limit_allowed(current: Milliamps) -> bool
     ensures { result ≡ limit_allowed current.0 }
 {
     current.0 <= 80000
 }
 
+#[tactic(auto, unfolding(rules::specs::Refusals::kind_allowed, units::specs::Range::from_to))]
 fn kind_allowed(kind: u32) -> bool
     ensures { result ≡ kind_allowed kind }
 {
@@ -80,6 +83,7 @@ fn kind_allowed(kind: u32) -> bool
 }
 
 // The duties that a post of this mark commands: 5 %, or 100 to 960.
+#[tactic(auto, unfolding(rules::specs::Altered::duty_allowed))]
 fn duty_allowed(digital: bool, wave: u32) -> bool
     ensures { result ≡ duty_allowed digital wave }
 {
@@ -89,6 +93,7 @@ fn duty_allowed(digital: bool, wave: u32) -> bool
 }
 
 // The wave's range in a lent controller of this mark.
+#[tactic(auto, unfolding(rules::specs::Altered::wave_allowed))]
 pub fn wave_allowed(digital: bool, wave: u32) -> bool
     ensures { result ≡ wave_allowed digital wave }
 {
@@ -118,6 +123,7 @@ fn window_refusal(window: Evaluated) -> u8
 }
 
 // 13: a limit above 80,000.
+#[tactic(auto, unfolding(rules::specs::Refusals::limit_allowed))]
 fn limit_refusal(current: Milliamps) -> u8
     ensures { result ≡ cond (limit_allowed current.0) 0 13 }
 {
@@ -152,6 +158,7 @@ fn link_number(digital: bool, allowed: bool) -> u8
 }
 
 // 12: a link call to a plain post; then 11: a grant above 80,000.
+#[tactic(auto, unfolding(rules::specs::Refusals::link_refusal))]
 fn link_refusal(digital: bool, granted: Milliamps) -> u8
     ensures { result ≡ link_refusal digital granted.0 }
 {
@@ -160,6 +167,7 @@ fn link_refusal(digital: bool, granted: Milliamps) -> u8
 }
 
 // 4 to 8, and 11 to 13: for the arguments, in a post of this mark.
+#[tactic(auto, unfolding(rules::specs::Refusals::argument_refusal))]
 pub fn argument_refusal(digital: bool, event: Event) -> u8
     ensures { result ≡ argument_refusal digital (as_event event) }
 {
@@ -187,6 +195,7 @@ fn begin_number(late: bool, fine: bool) -> u8
 }
 
 // Begin's refusal: 3, then 1; 0 if it is accepted.
+#[tactic(auto, unfolding(rules::specs::Begin::begin_refusal))]
 pub fn begin_refusal(time: Millis, given: Settings) -> u8
     ensures { result ≡ begin_refusal (begins_with time given) }
 {
