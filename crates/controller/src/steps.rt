@@ -35,6 +35,7 @@ impl Controller {
     }
 
     // The lesser of rated and limit.
+    #[tactic(auto, unfolding(rules::specs::State::available))]
     pub(crate) fn available(self) -> Milliamps
         ensures { result.0 ≡ available (state_of self) }
     {
@@ -42,6 +43,7 @@ impl Controller {
     }
 
     // The least of grant, rated and limit.
+    #[tactic(auto, unfolding(rules::specs::State::least_of_three))]
     pub(crate) fn least(self) -> Milliamps
         ensures { result.0 ≡ least_of_three (state_of self) }
     {
@@ -81,6 +83,7 @@ impl Controller {
     }
 
     // The over-run began, or restarted, 5,000 or longer ago.
+    #[tactic(auto, unfolding(rules::specs::Step2Latches::over_current))]
     pub(crate) fn over_current(self, time: Millis) -> bool
         ensures { result ≡ over_current time.0 (state_of self) }
     {
@@ -88,6 +91,7 @@ impl Controller {
     }
 
     // Something latches, or a latched fault is told again.
+    #[tactic(auto, unfolding(rules::specs::Step2Latches::unsettles))]
     pub(crate) fn unsettles(self, faultcall: bool, time: Millis, pair: Pair) -> bool
         ensures { result ≡ unsettles faultcall time.0 (as_pair pair) (state_of self) }
     {
@@ -97,6 +101,7 @@ impl Controller {
     }
 
     // Step 2: latches.
+    #[tactic(auto, unfolding(rules::specs::Step2Latches::latched))]
     pub(crate) fn latch(mut self, faultcall: bool, time: Millis, pair: Pair) -> Controller
         ensures { view result ≡ on_state (step_latch faultcall time.0 (as_pair pair)) (view self) }
     {
@@ -114,6 +119,7 @@ impl Controller {
     }
 
     // The wave is held at steady +12 V: no duty by the plain rules, or a digital post closed with a grant below 6,000.
+    #[tactic(auto, unfolding(rules::specs::Step3Wave::held_high))]
     pub(crate) fn held_high(self) -> bool
         ensures { result ≡ held_high (state_of self) }
     {
@@ -124,6 +130,7 @@ impl Controller {
     }
 
     // Step 3: the wave, and what follows from it for the over-run and the stop.
+    #[tactic(auto, unfolding(rules::specs::Step3Wave::wave_for))]
     pub(crate) fn wave(mut self, time: Millis) -> Controller
         ensures { view result ≡ on_state (step_wave time.0) (view self) }
     {
@@ -141,6 +148,7 @@ impl Controller {
     }
 
     // An opening cause holds: i, ii, iii, iv or v.
+    #[tactic(auto, unfolding(rules::specs::Step4Opening::cause, rules::specs::Step4Opening::cause1, rules::specs::Step4Opening::cause2, rules::specs::Step4Opening::cause3, rules::specs::Step4Opening::cause4, rules::specs::Step4Opening::cause5))]
     pub(crate) fn cause(self, time: Millis, pair: Pair) -> bool
         ensures { result ≡ cause time.0 (as_pair pair) (state_of self) }
     {
@@ -154,6 +162,7 @@ impl Controller {
     }
 
     // This call opens the contactor.
+    #[tactic(auto, unfolding(rules::specs::Step4Opening::opens))]
     pub(crate) fn opens(self, time: Millis, pair: Pair) -> bool
         ensures { result ≡ opens time.0 (as_pair pair) (state_of self) }
     {
@@ -183,6 +192,7 @@ impl Controller {
     }
 
     // Every closing condition is met.
+    #[tactic(auto, unfolding(rules::specs::Step5Closing::closes, rules::specs::Step5Closing::pause_over))]
     pub(crate) fn closes(self, opened: bool, time: Millis, pair: Pair) -> bool
         ensures { result ≡ closes opened time.0 (as_pair pair) (state_of self) }
     {
