@@ -13,6 +13,7 @@ use parts::{replies, settings};
 use units::Millis;
 
 // The controller of an accepted begin; its wave is steady +12 V.
+#[tactic(auto, unfolding(rules::specs::Begin::fresh))]
 fn fresh(time: Millis, given: Settings) -> Controller
     ensures { view result ≡ begun (begins_with time given) }
 {

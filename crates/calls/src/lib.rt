@@ -46,6 +46,7 @@ pub fn begin(
 }
 
 // A window of readings of the control pilot, in millivolts.
+#[tactic(auto, unfolding(rules::specs::Calls::evaluated))]
 pub fn sample(c: Controller, time: u64, window: &[i32]) -> Answer
     ensures { Answers (record { time = time; event = sample window.now }) c result.reply result.controller }
 {
@@ -54,6 +55,7 @@ pub fn sample(c: Controller, time: u64, window: &[i32]) -> Answer
 }
 
 // The depot's limit, in milliamps.
+#[tactic(auto, unfolding(rules::specs::Calls::evaluated))]
 pub fn limit(c: Controller, time: u64, current: u32) -> Answer
     ensures { Answers (record { time = time; event = limit current }) c result.reply result.controller }
 {
@@ -61,6 +63,7 @@ pub fn limit(c: Controller, time: u64, current: u32) -> Answer
 }
 
 // The current on each line, in milliamps.
+#[tactic(auto, unfolding(rules::specs::Calls::evaluated))]
 pub fn measure_lines(c: Controller, time: u64, line1: u32, line2: u32, line3: u32) -> Answer
     ensures { Answers (record { time = time; event = measure (record { line1 = line1; line2 = line2; line3 = line3 }) }) c result.reply result.controller }
 {
@@ -80,6 +83,7 @@ pub fn measure(c: Controller, time: u64, current: u32) -> Answer
 }
 
 // The current granted by link, in milliamps; refused by a plain post.
+#[tactic(auto, unfolding(rules::specs::Calls::evaluated))]
 pub fn link(c: Controller, time: u64, granted: u32) -> Answer
     ensures { Answers (record { time = time; event = link granted }) c result.reply result.controller }
 {
@@ -87,6 +91,7 @@ pub fn link(c: Controller, time: u64, granted: u32) -> Answer
 }
 
 // A fault from outside: 3 residual current, 4 welded contact, 5 over-temperature.
+#[tactic(auto, unfolding(rules::specs::Calls::evaluated))]
 pub fn fault(c: Controller, time: u64, kind: u32) -> Answer
     ensures { Answers (record { time = time; event = fault kind }) c result.reply result.controller }
 {
@@ -94,6 +99,7 @@ pub fn fault(c: Controller, time: u64, kind: u32) -> Answer
 }
 
 // The faults are over.
+#[tactic(auto, unfolding(rules::specs::Calls::evaluated))]
 pub fn clear(c: Controller, time: u64) -> Answer
     ensures { Answers (record { time = time; event = clear }) c result.reply result.controller }
 {
@@ -101,6 +107,7 @@ pub fn clear(c: Controller, time: u64) -> Answer
 }
 
 // Nothing but the time.
+#[tactic(auto, unfolding(rules::specs::Calls::evaluated))]
 pub fn tick(c: Controller, time: u64) -> Answer
     ensures { Answers (record { time = time; event = tick }) c result.reply result.controller }
 {

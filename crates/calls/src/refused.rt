@@ -9,6 +9,7 @@ use parts::{grants, settings};
 use units::{Millis, conditions};
 
 // No stored time is above the last accepted one.
+#[tactic(auto, unfolding(rules::specs::Altered::times_allowed))]
 fn times_allowed(c: Controller) -> bool
     ensures { result ≡ times_allowed (state_of c) }
 {
@@ -20,6 +21,7 @@ fn times_allowed(c: Controller) -> bool
     conditions::all(sound, opening, starts)
 }
 
+#[tactic(auto, unfolding(rules::specs::Altered::in_range))]
 fn in_range(c: Controller) -> bool
     ensures { result ≡ in_range (state_of c) }
 {
@@ -35,6 +37,7 @@ fn in_range(c: Controller) -> bool
 }
 
 // The host has altered it: no list of calls leads here.
+#[tactic(auto, unfolding(rules::specs::Altered::altered))]
 pub(crate) fn altered(c: Controller) -> bool
     ensures { result ≡ altered (view c) }
 {
@@ -45,6 +48,7 @@ pub(crate) fn altered(c: Controller) -> bool
 }
 
 // 3, then 2, then 1, then those for the arguments; 0 if the call is accepted.
+#[tactic(auto, unfolding(rules::specs::Altered::lent_refusal))]
 pub(crate) fn refusal(c: Controller, time: Millis, event: Event) -> u8
     ensures { result ≡ lent_refusal (view c) (evaluated_at time event) }
 {
