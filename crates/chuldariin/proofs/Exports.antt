@@ -5,7 +5,8 @@ use mathlib.Core.Path.{◌≡◌}
 use seplogic.Ra.Ura.{Ura}
 use base.Logic.{emp}
 use prog.Model.{Model}
-use prog.Routine.{Routine}
+use mir.Syntax.{Callee}
+use prog.Wired.{Code, Wired}
 use types.Logic.{Logic}
 use contract.Monad.{fact}
 use contract.Running.{Running}
@@ -44,7 +45,7 @@ use Rattle.chuldariin.specs.contracts.chuldariin_clear as clear-call
 use Rattle.chuldariin.proofs.chuldariin_clear.Symbol as clear-symbol
 use Rattle.chuldariin.proofs.chuldariin_clear.Met as clear-met
 use Rattle.chuldariin.specs.contracts.chuldariin_tick as tick-call
-use Rattle.chuldariin.proofs.chuldariin_tick.Symbol as tick_symbol
+use Rattle.chuldariin.proofs.chuldariin_tick.Symbol as tick-symbol
 use Rattle.chuldariin.proofs.chuldariin_tick.Met as tick-met
 use Rattle.chuldariin.specs.contracts.duties.chuldariin_reading as reading
 use Rattle.chuldariin.proofs.duties.chuldariin_reading.Symbol as reading-symbol
@@ -55,39 +56,39 @@ use Rattle.chuldariin.proofs.duties.chuldariin_duty.Met as duty-met
 
 module _ {M : Type 1} {𝓤 : Ura M} (𝓛 : Logic 𝓤) (𝓜 : Model 𝓤 𝓛.H) (𝓡 : Running 𝓤 𝓛.H 𝓜) where
   -- the routine asks nothing, and when it has returned r the proposition holds of the parameters at entry, of r, and of the parameters at exit
-  abbrev pub Promises : (T : Ended) → Routine → ((κs : Lfts T.signature.lifetimes) → Args T.signature κs → Res T.signature κs → AtExit T κs → Type 0) → Type 1
-  Promises T routine promise = Meets 𝓛 T.signature (𝓡.run routine) (closing 𝓛 T (λ κs a. record { ghost = Unit {0}; requires = λ g. emp 𝓤; ensures = λ g r e. fact 𝓤 (promise κs a r e) }))
+  abbrev pub Promises : (T : Ended) → Code → Callee → ((κs : Lfts T.signature.lifetimes) → Args T.signature κs → Res T.signature κs → AtExit T κs → Type 0) → Type 1
+  Promises T code name promise = Wired 𝓡.env code → Meets 𝓛 T.signature (𝓡.run (𝓡.env name)) (closing 𝓛 T (λ κs a. record { ghost = Unit {0}; requires = λ g. emp 𝓤; ensures = λ g r e. fact 𝓤 (promise κs a r e) }))
 
-  pub begin-promises : Promises begin.ended begin-symbol.routine (λ κs a r e. BeginsLent (record { time = a.1.0; rated = a.1.1.0; pause = a.1.1.1.0; ventilation = a.1.1.1.1.0; digital = a.1.1.1.1.1.0 }) a.0 r e.0)
+  pub begin-promises : Promises begin.ended begin-symbol.code begin-symbol.name (λ κs a r e. BeginsLent (record { time = a.1.0; rated = a.1.1.0; pause = a.1.1.1.0; ventilation = a.1.1.1.1.0; digital = a.1.1.1.1.1.0 }) a.0 r e.0)
   begin-promises = begin-met.met 𝓤 𝓛 𝓜 𝓡
 
-  pub sample-promises : Promises sample-call.ended sample-symbol.routine (λ κs a r e. AnswersLent (record { time = a.1.0; event = sample a.1.1.0.now }) a.0 r e.0)
+  pub sample-promises : Promises sample-call.ended sample-symbol.code sample-symbol.name (λ κs a r e. AnswersLent (record { time = a.1.0; event = sample a.1.1.0.now }) a.0 r e.0)
   sample-promises = sample-met.met 𝓤 𝓛 𝓜 𝓡
 
-  pub limit-promises : Promises limit-call.ended limit-symbol.routine (λ κs a r e. AnswersLent (record { time = a.1.0; event = limit a.1.1.0 }) a.0 r e.0)
+  pub limit-promises : Promises limit-call.ended limit-symbol.code limit-symbol.name (λ κs a r e. AnswersLent (record { time = a.1.0; event = limit a.1.1.0 }) a.0 r e.0)
   limit-promises = limit-met.met 𝓤 𝓛 𝓜 𝓡
 
-  pub measure-lines-promises : Promises lines-call.ended lines-symbol.routine (λ κs a r e. AnswersLent (record { time = a.1.0; event = measure (record { line1 = a.1.1.0; line2 = a.1.1.1.0; line3 = a.1.1.1.1.0 }) }) a.0 r e.0)
+  pub measure-lines-promises : Promises lines-call.ended lines-symbol.code lines-symbol.name (λ κs a r e. AnswersLent (record { time = a.1.0; event = measure (record { line1 = a.1.1.0; line2 = a.1.1.1.0; line3 = a.1.1.1.1.0 }) }) a.0 r e.0)
   measure-lines-promises = lines-met.met 𝓤 𝓛 𝓜 𝓡
 
   -- the promise above, for this current on line 1 and 0 on the others
-  pub measure-promises : Promises measure-call.ended measure-symbol.routine (λ κs a r e. AnswersLent (record { time = a.1.0; event = measure (on_line1 a.1.1.0) }) a.0 r e.0)
+  pub measure-promises : Promises measure-call.ended measure-symbol.code measure-symbol.name (λ κs a r e. AnswersLent (record { time = a.1.0; event = measure (on_line1 a.1.1.0) }) a.0 r e.0)
   measure-promises = measure-met.met 𝓤 𝓛 𝓜 𝓡
 
-  pub link-promises : Promises link-call.ended link-symbol.routine (λ κs a r e. AnswersLent (record { time = a.1.0; event = link a.1.1.0 }) a.0 r e.0)
+  pub link-promises : Promises link-call.ended link-symbol.code link-symbol.name (λ κs a r e. AnswersLent (record { time = a.1.0; event = link a.1.1.0 }) a.0 r e.0)
   link-promises = link-met.met 𝓤 𝓛 𝓜 𝓡
 
-  pub fault-promises : Promises fault-call.ended fault-symbol.routine (λ κs a r e. AnswersLent (record { time = a.1.0; event = fault a.1.1.0 }) a.0 r e.0)
+  pub fault-promises : Promises fault-call.ended fault-symbol.code fault-symbol.name (λ κs a r e. AnswersLent (record { time = a.1.0; event = fault a.1.1.0 }) a.0 r e.0)
   fault-promises = fault-met.met 𝓤 𝓛 𝓜 𝓡
 
-  pub clear-promises : Promises clear-call.ended clear-symbol.routine (λ κs a r e. AnswersLent (record { time = a.1.0; event = clear }) a.0 r e.0)
+  pub clear-promises : Promises clear-call.ended clear-symbol.code clear-symbol.name (λ κs a r e. AnswersLent (record { time = a.1.0; event = clear }) a.0 r e.0)
   clear-promises = clear-met.met 𝓤 𝓛 𝓜 𝓡
 
-  pub tick-promises : Promises tick-call.ended tick_symbol.routine (λ κs a r e. AnswersLent (record { time = a.1.0; event = tick }) a.0 r e.0)
+  pub tick-promises : Promises tick-call.ended tick-symbol.code tick-symbol.name (λ κs a r e. AnswersLent (record { time = a.1.0; event = tick }) a.0 r e.0)
   tick-promises = tick-met.met 𝓤 𝓛 𝓜 𝓡
 
-  pub reading-promises : Promises reading.ended reading-symbol.routine (λ κs a r e. r ≡ host_reading (reading_of a.0))
+  pub reading-promises : Promises reading.ended reading-symbol.code reading-symbol.name (λ κs a r e. r ≡ host_reading (reading_of a.0))
   reading-promises = reading-met.met 𝓤 𝓛 𝓜 𝓡
 
-  pub duty-promises : Promises duty.ended duty-symbol.routine (λ κs a r e. r ≡ host_duty (duty_for a.0))
+  pub duty-promises : Promises duty.ended duty-symbol.code duty-symbol.name (λ κs a r e. r ≡ host_duty (duty_for a.0))
   duty-promises = duty-met.met 𝓤 𝓛 𝓜 𝓡
