@@ -3,17 +3,36 @@
 // each is written as it stands, with the answer beside it, and what is written is held to the file stdout.
 mod lend;
 
+ghost use Rattle.std.specs.Prelude.{◌≤◌, IfOk, length};
+
 use controller::Controller;
-use libc::STDIN_FILENO;
 use posts::{altered, same};
 use printing::{beside, phrases, print};
+use std::io;
+use std::io::{Read, Write};
 use tables::{readings, rows, text, words};
 
-fn main() {
-    let mut space = io::large_buffer();
-    let n = io::read_full(STDIN_FILENO, &mut space);
-    run(&space[..n]);
-    print::either(n == 65536, phrases::TOO_LONG, phrases::NOTHING);
+fn main(rt: HostRuntime) -> io::Result<()> {
+    let mut space = [0; 65536];
+    let n = read_full(&mut rt.stdin(), &mut space)?;
+    let mut out = rt.stdout();
+    run(&mut out, &space[..n])?;
+    print::either(&mut out, n == 65536, phrases::TOO_LONG, phrases::NOTHING)
+}
+
+// Reads until the space is full or the input ends, and answers how many bytes it put at the start of the space.
+fn read_full<R: Read>(input: &mut R, space: &mut [u8]) -> io::Result<usize>
+    ensures { IfOk result (λ n. n ≤ length space.new) }
+{
+    let mut done = 0;
+    while done < space.len() {
+        let n = input.read(&mut space[done..])?;
+        if n == 0 {
+            break;
+        }
+        done += n;
+    }
+    Ok(done)
 }
 
 // The controller that the last row handed back, and the one that is kept.
@@ -24,23 +43,23 @@ struct Post {
 }
 
 // One line: a row is lent the controller that the one before it handed back.
-fn turn(post: Post, first: u8, line: &[u8]) -> Post {
+fn turn<W: Write>(out: &mut W, post: Post, first: u8, line: &[u8]) -> io::Result<Post> {
     let mut space = [0; 1025];
     let r = rows::read(line, &mut space);
     let window = readings::first(&space, r.readings);
     let lent = altered::lent(r, post.controller, post.kept);
     let a = lend::answer(r, lent, window);
     let same = same::controllers(lent, a.controller);
-    beside::line(first, line, r, window, a.reply, same);
+    beside::line(out, first, line, r, window, a.reply, same)?;
     let kept = altered::pick(r.word == words::KEEP, lent, post.kept);
     let next = a.controller;
-    Post {
+    Ok(Post {
         controller: next,
         kept: kept,
-    }
+    })
 }
 
-fn run(text: &[u8]) {
+fn run<W: Write>(out: &mut W, text: &[u8]) -> io::Result<()> {
     let none = Controller::zeroed();
     let mut post = Post {
         controller: none,
@@ -52,6 +71,7 @@ fn run(text: &[u8]) {
         let end = text::end(text, at, b'\n');
         let line = &text[at..end];
         at = end + 1;
-        post = turn(post, first, line);
+        post = turn(out, post, first, line)?;
     }
+    Ok(())
 }

@@ -35,7 +35,7 @@ count-preserved c =
     let x = c.reading-level.result.0 in
     let near = sym c.near-close.ensures in
     elim c.if-close.branch [
-      then-close+else-wanted-count w ↦ (
+      | then-close+else-wanted-count w ↦ (
         omega (arith, c.count-test.true),
         c.count.invariant.1,
         omega (arith, w.if-wanted-count.false, w.count-is),
@@ -60,15 +60,15 @@ loop-i-preserved c =
     let rest = drop (c.loop-i.i + 1) window in (
       omega (arith, more),
       elim c.count-test.branch [
-        else-count-test w ↦
-          (let fails = too_few window x c.count.count c.count.j c.count.invariant.3 c.needed-wanted.result c.needed-wanted.ensures w.count-test.false c.count.invariant.2 in
-          ap (λ (f : Found). gather test (as_found f) rest) (w.found-is ∙ c.count.invariant.1)
-          ∙ gather_failed test (as_found c.loop-i.found) window c.loop-i.i x c.reading-level.ensures more fails ∙ c.loop-i.invariant.1)
+        | else-count-test w ↦
+            (let fails = too_few window x c.count.count c.count.j c.count.invariant.3 c.needed-wanted.result c.needed-wanted.ensures w.count-test.false c.count.invariant.2 in
+            ap (λ (f : Found). gather test (as_found f) rest) (w.found-is ∙ c.count.invariant.1)
+            ∙ gather_failed test (as_found c.loop-i.found) window c.loop-i.i x c.reading-level.ensures more fails ∙ c.loop-i.invariant.1)
         | then-count-test+then-close+then-wanted-count w ↦
-          (let passes = enough window x c.count.count c.count.j c.count.invariant.3 w.reading.result.0 w.reading.ensures w.count-test.true c.needed-wanted.result c.needed-wanted.ensures (sym w.near-close.ensures ∙ w.if-close.true) w.if-wanted-count.true in
-          ap (λ (f : Found). gather test (as_found f) rest) w.found-is
-          ∙ ap (λ (f : Evaluation). gather test f rest) (w.widened-found.ensures ∙ ap (λ (f : Found). widen (as_found f) x) c.count.invariant.1)
-          ∙ gather_passed test (as_found c.loop-i.found) window c.loop-i.i x c.reading-level.ensures more passes ∙ c.loop-i.invariant.1)
+            (let passes = enough window x c.count.count c.count.j c.count.invariant.3 w.reading.result.0 w.reading.ensures w.count-test.true c.needed-wanted.result c.needed-wanted.ensures (sym w.near-close.ensures ∙ w.if-close.true) w.if-wanted-count.true in
+            ap (λ (f : Found). gather test (as_found f) rest) w.found-is
+            ∙ ap (λ (f : Evaluation). gather test f rest) (w.widened-found.ensures ∙ ap (λ (f : Found). widen (as_found f) x) c.count.invariant.1)
+            ∙ gather_passed test (as_found c.loop-i.found) window c.loop-i.i x c.reading-level.ensures more passes ∙ c.loop-i.invariant.1)
       ],
     )
 
