@@ -5,6 +5,7 @@ pub mod Values
 pub mod Sequences
 pub mod Computing
 pub mod BenchRows
+pub mod BenchRowsHold
 pub mod LineRows
 pub mod OtherRows
 pub mod StateRows

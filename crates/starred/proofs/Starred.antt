@@ -18,7 +18,8 @@ use Rattle.rules.specs.Reply.{Reply, letter_u, shown}
 use Rattle.rules.specs.State.{empty, set_to, forgotten}
 use Rattle.rules.specs.Outcome.{lent_after, replies_to}
 use Rattle.rules.specs.Calls.{Call, in_turn}
-use Rattle.rules.proofs.Rows.BenchRows.{first_charge, first_charge_lem}
+use Rattle.rules.proofs.Rows.BenchRows.{first_charge}
+use Rattle.rules.proofs.Rows.BenchRowsHold.{first_charge_lem}
 use Rattle.rules.proofs.Rows.Sequences.{Entry, call_of, at32_a, computed, lent_on_lem}
 use Rattle.parts.specs.declared.replies.Reply.{Reply as HostReply}
 use Rattle.parts.specs.Views.{as_reply}
