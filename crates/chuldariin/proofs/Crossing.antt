@@ -13,4 +13,4 @@ abbrev pub replied : Plain
 replied = record { type = reply.the_type; laws = reply-laws.the_laws; lowers = reply-laws.lowers; plain = reply-laws.the_plain }
 
 abbrev pub answers : Pairs lent replied
-answers = record { name = (answer.the_type).name; D = (answer.the_type).D; controller = λ a. a.controller; reply = λ a. a.reply; one = (answer.the_type).to_one }
+answers = record { name = (answer.the_type).name; D = (answer.the_type).D; controller = λ a. a.controller; reply = λ a. a.reply; one = (answer.the_type).to_one; cover = (answer.the_type).cover; propositions = (answer.the_type).propositions }

@@ -8,18 +8,18 @@ use Prim.Native.Nat.{ℕ, zero, suc}
 use mathlib.Core.List.{List, [], ◌∷◌, ◌++◌, map}
 use lib.ListN.{get_or}
 use seplogic.Ra.Ura.{Ura}
-use seplogic.Ra.TreeShare.{full_share}
+use base.Fraction.{full_share}
 use mir.Syntax.{Ty, Width, named, imm, ty_int, ty_bool, ty_ref, ty_enum, ttnil, Written, wrote, Step as PStep, place, Opd as Operand, copy, Local, local, value_local}
 use mir.Val.{Val, vint, vbool, of_z}
 use base.Logic.{ent, sep, emp, id⊢, via, emp∗, mono∗, mono_r}
 use base.Stored.{Coded, coded_list}
-use base.Fml.{Fml, ftrue, fsep, fat, froom, fdies}
+use base.Fml.{Fml, Lft, ftrue, fsep, fat, froom, fdies}
 use prog.Wp.{Env, Spot, walk}
 use types.Logic.{Logic, sem}
 use contract.Lifetimes.{Lfts, Within, lft_at}
 use types.Kit.{Item, ‵, ◌⊛◌, ⋆, nth, del, pull, unpull, push, pop, Goal, allocs, passes, frees, Sq, Step, step, Go, !, ◌$◌, ◌∵◌, qed, move, use1, fsplit, fjoin, split, drop, frame, done}
 use types.Run.{Walks, Finds, Opds, look, init, stop, load, and_then, no_more, alloc1, pass1, pass0, free1}
-use denote.RattleType.{RattleType, Denots, Valss, owns, flat}
+use denote.RattleType.{RattleType, RowLaws, Denots, Valss, owns, flat}
 use denote.Exit.{unchanged, yes}
 use denote.Laws.{Typed, Is, Ises, Are, Tells, Spells, valss, Tellss, Lawful, Copy, shows}
 use denote.Shadow.{shadow}
@@ -33,7 +33,7 @@ use denote.Struct.Laws as LL
 use denote.Memory.{pointee}
 use denote.Ref.{Bor, shr_coded}
 use denote.Slice.{ShrSlice, slice_ty, shr_slice_vals, shr_slice_Tells, shr_slice_Lawful, shr_slice_copy}
-use Rattle.lending.proofs.Structs.{Plain, the_row, spelled, value as struct-value}
+use Rattle.lending.proofs.Structs.{Plain, the_row, spelled, value as struct_value}
 
 -- a type as a signature spells it: its one MIR type, and what MIR writes for it
 pub record Spelling : Type 0 where
@@ -44,6 +44,8 @@ pub record Parameter (n : ℕ) : Type 2 where
   pub D : Type 0
   pub coded : Coded D
   pub reaches : List (Written × List Ty)
+  pub lives : Lfts n → Lft
+  pub shr_at : Lfts n → D → ℕ → ℕ → Lft → Fml
   pub own : Lfts n → D → List Val → Fml
   -- in the call by value, and in the lent call
   pub by_value : Spelling
@@ -59,11 +61,11 @@ pub record Side (n m : ℕ) : Type 2 where
   pub spelling : Parameter n → Spelling
   pub at : Lfts m → Lfts n
 
-abbrev pub by-value-side : (n : ℕ) → Side n n
-by-value-side n = record { spelling = λ p. p.by_value; at = λ κs. κs }
+abbrev pub by_value_side : (n : ℕ) → Side n n
+by_value_side n = record { spelling = λ p. p.by_value; at = λ κs. κs }
 
-abbrev pub lent-side : (n : ℕ) → Side n (suc n)
-lent-side n = record { spelling = λ p. p.lent; at = λ κs. κs.1 }
+abbrev pub lent_side : (n : ℕ) → Side n (suc n)
+lent_side n = record { spelling = λ p. p.lent; at = λ κs. κs.1 }
 
 -- the value of the language's `no_local`, which needs no model here
 abbrev no_local : Ty × ℕ
@@ -79,13 +81,15 @@ plain_copy S 𝓛 = record { twice = λ x vs. qed 𝓛 (‵ ((the_row S).own_val
 
 module _ {n : ℕ} where
   -- ---- the kinds. A type that names no lifetime is spelled alike in both calls
-  abbrev spelled-alike : (R : RattleType) (τ : Ty) → R.mir ≡ τ ∷ [] → (value : R.Denot → Val) → Tells R (Is R) (λ x. value x ∷ [])
+  abbrev spelled_alike : (R : RattleType) (τ : Ty) → R.mir ≡ τ ∷ [] → (value : R.Denot → Val) → Tells R (Is R) (λ x. value x ∷ [])
       → ((M : Type 1) (𝓤 : Ura M) (𝓛 : Logic 𝓤) → Lawful 𝓛 R × Copy 𝓛 R) → Parameter n
-  spelled-alike R τ one value tells laws = record {
+  spelled_alike R τ one value tells laws = record {
     D = R.Denot;
     coded = R.coded;
     reaches = R.reaches;
-    own = λ κs. R.own;
+    lives = λ κs. R.lives;
+    shr_at = λ κs. R.shr_at;
+    own = λ κs. R.own_val;
     by_value = record { ty = τ; written = R.written };
     lent = record { ty = τ; written = R.written };
     value = value;
@@ -96,32 +100,34 @@ module _ {n : ℕ} where
 
   -- an unsigned number
   abbrev pub number : Width → Parameter n
-  number w = spelled-alike (UInt w) (ty_int w) refl (vint w) (uint_Tells w) (λ M 𝓤 𝓛. (uint_Lawful 𝓛 w, uint_copy 𝓛 w))
+  number w = spelled_alike (UInt w) (ty_int w) refl (vint w) (uint_Tells w) (λ M 𝓤 𝓛. (uint_Lawful 𝓛 w, uint_copy 𝓛 w))
 
   -- a signed number
   abbrev pub signed : Width → Parameter n
-  signed w = spelled-alike (SInt w) (ty_int w) refl (λ z. vint w (of_z w z)) (sint_Tells w) (λ M 𝓤 𝓛. (sint_Lawful 𝓛 w, sint_copy 𝓛 w))
+  signed w = spelled_alike (SInt w) (ty_int w) refl (λ z. vint w (of_z w z)) (sint_Tells w) (λ M 𝓤 𝓛. (sint_Lawful 𝓛 w, sint_copy 𝓛 w))
 
   abbrev pub boolean : Parameter n
-  boolean = spelled-alike Boolean ty_bool refl vbool bool_Tells (λ M 𝓤 𝓛. (bool_Lawful 𝓛, bool-copy 𝓛))
+  boolean = spelled_alike Boolean ty_bool refl vbool bool_Tells (λ M 𝓤 𝓛. (bool_Lawful 𝓛, bool-copy 𝓛))
 
   -- a struct of plain data
   abbrev pub struct : Plain → Parameter n
-  struct S = spelled-alike (the_row S) (spelled S) refl (struct-value S) (LL.tells S.type S.laws) (λ M 𝓤 𝓛. (LL.lawful S.type S.laws 𝓛, plain_copy S 𝓛))
+  struct S = spelled_alike (the_row S) (spelled S) refl (struct_value S) (LL.tells S.type S.laws) (λ M 𝓤 𝓛. (LL.lawful S.type S.laws 𝓛, plain_copy S 𝓛))
 
   -- a shared slice of the row T, at the lifetime j of the call by value
-  abbrev pub slice : RattleType → (j : ℕ) → Within n j → Parameter n
-  slice T j ok = record {
+  abbrev pub slice : (T : RattleType) → RowLaws T → (j : ℕ) → Within n j → Parameter n
+  slice T laws j ok = record {
     D = Bor (List T.Denot);
     coded = shr_coded (coded_list T.coded);
     reaches = (T.written, T.mir) ∷ T.reaches;
+    lives = λ κs. (ShrSlice (named j) (lft_at n j ok κs) T).lives;
+    shr_at = λ κs. (ShrSlice (named j) (lft_at n j ok κs) T).shr_at;
     own = λ κs. (ShrSlice (named j) (lft_at n j ok κs) T).own_val;
     by_value = record { ty = shared T j; written = wrote (shared T j) };
     lent = record { ty = shared T (suc j); written = wrote (shared T (suc j)) };
     value = λ x. only (shr_slice_vals x);
     tells = λ κs. shr_slice_Tells (named j) (lft_at n j ok κs) T;
     typed = λ 𝓛 κs x. (shr_slice_Lawful 𝓛 (named (suc j)) (lft_at n j ok κs) T).typed x (shr_slice_vals x);
-    twice = λ 𝓛 κs. (shr_slice_copy 𝓛 (named j) (lft_at n j ok κs) T).twice;
+    twice = λ 𝓛 κs. (shr_slice_copy 𝓛 (named j) (lft_at n j ok κs) T laws).twice;
   }
 
   -- ---- what a call is given for a list of them
@@ -132,7 +138,7 @@ module _ {n : ℕ} where
   -- ---- a list of them in the signature of one of the two calls
   module _ {m : ℕ} (side : Side n m) where
     abbrev pub slot : Parameter n → Slot m
-    slot p = plain (λ κs. record { Denot = p.D; mir = (side.spelling p).ty ∷ []; written = (side.spelling p).written; reaches = p.reaches; own_val = p.own (side.at κs); exit = λ k. unchanged; coded = p.coded })
+    slot p = plain (λ κs. record { Denot = p.D; mir = (side.spelling p).ty ∷ []; written = (side.spelling p).written; reaches = p.reaches; lives = p.lives (side.at κs); own_val = p.own (side.at κs); exit = λ k. unchanged; coded = p.coded; shr_at = p.shr_at (side.at κs) })
 
     abbrev pub slots : List (Parameter n) → List (Slot m)
     slots = map slot
@@ -163,15 +169,15 @@ module _ {n : ℕ} where
     values ps κs a = valss (types_at (slots ps) κs) (spells ps κs) a
 
   -- at exit each is owned as it was passed, and nothing is said of it
-  abbrev pub stayed : (ps : List (Parameter n)) → Stays (slots (lent-side n) ps) (all yes (slots (lent-side n) ps))
+  abbrev pub stayed : (ps : List (Parameter n)) → Stays (slots (lent_side n) ps) (all yes (slots (lent_side n) ps))
   stayed [] = tt
-  stayed (p ∷ ps) = (stay_none (slot (lent-side n) p).row yes, stayed ps)
+  stayed (p ∷ ps) = (stay_none (slot (lent_side n) p).row yes, stayed ps)
 
-  abbrev pub lasts-of : (ps : List (Parameter n)) (κs : Lfts (suc n)) (a : Denots (types_at (slots (lent-side n) ps) κs)) → Fins κs (slots (lent-side n) ps) (all yes (slots (lent-side n) ps)) a
-  lasts-of [] κs a = tt
-  lasts-of (p ∷ ps) κs a = (tt, lasts-of ps κs a.1)
+  abbrev pub lasts_of : (ps : List (Parameter n)) (κs : Lfts (suc n)) (a : Denots (types_at (slots (lent_side n) ps) κs)) → Fins κs (slots (lent_side n) ps) (all yes (slots (lent_side n) ps)) a
+  lasts_of [] κs a = tt
+  lasts_of (p ∷ ps) κs a = (tt, lasts_of ps κs a.1)
 
-  pub fit : (ps : List (Parameter n)) (κs : Lfts (suc n)) (a : Denots (types_at (slots (lent-side n) ps) κs)) → fits_of κs (slots (lent-side n) ps) (all yes (slots (lent-side n) ps)) (stayed ps) a (lasts-of ps κs a)
+  pub fit : (ps : List (Parameter n)) (κs : Lfts (suc n)) (a : Denots (types_at (slots (lent_side n) ps) κs)) → fits_of κs (slots (lent_side n) ps) (all yes (slots (lent_side n) ps)) (stayed ps) a (lasts_of ps κs a)
   fit [] κs a = tt
   fit (p ∷ ps) κs a = (tt, fit ps κs a.1)
 
@@ -183,9 +189,9 @@ module _ {n : ℕ} where
   abbrev pub locals_of : List (Parameter n) → List Local
   locals_of = map (λ p. local p.lent.ty value_local)
 
-  abbrev pub env-of : (ps : List (Parameter n)) → Blocks ps → List (Ty × ℕ)
-  env-of [] bs = []
-  env-of (p ∷ ps) bs = (p.lent.ty, bs.0) ∷ env-of ps bs.1
+  abbrev pub env_of : (ps : List (Parameter n)) → Blocks ps → List (Ty × ℕ)
+  env_of [] bs = []
+  env_of (p ∷ ps) bs = (p.lent.ty, bs.0) ∷ env_of ps bs.1
 
   -- the local k after those of ps, and the operands that read those of ps, from the local i on
   abbrev pub after : List (Parameter n) → ℕ → ℕ
@@ -217,44 +223,44 @@ module _ {n : ℕ} where
   one_further e E i [] bs at = tt
   one_further e E i (p ∷ ps) bs at = (at.0, one_further e E (suc i) ps bs.1 at.1)
 
-  pub stand-first : (E : List (Ty × ℕ)) (ps : List (Parameter n)) (bs : Blocks ps) → StandFrom (env-of ps bs ++ E) 0 ps bs
-  stand-first E [] bs = tt
-  stand-first E (p ∷ ps) bs = (refl, one_further (p.lent.ty, bs.0) (env-of ps bs.1 ++ E) 0 ps bs.1 (stand-first E ps bs.1))
+  pub stand_first : (E : List (Ty × ℕ)) (ps : List (Parameter n)) (bs : Blocks ps) → StandFrom (env_of ps bs ++ E) 0 ps bs
+  stand_first E [] bs = tt
+  stand_first E (p ∷ ps) bs = (refl, one_further (p.lent.ty, bs.0) (env_of ps bs.1 ++ E) 0 ps bs.1 (stand_first E ps bs.1))
 
-  pub beyond : (E : List (Ty × ℕ)) (k : ℕ) (ps : List (Parameter n)) (bs : Blocks ps) → get_or (env-of ps bs ++ E) (after ps k) no_local ≡ get_or E k no_local
+  pub beyond : (E : List (Ty × ℕ)) (k : ℕ) (ps : List (Parameter n)) (bs : Blocks ps) → get_or (env_of ps bs ++ E) (after ps k) no_local ≡ get_or E k no_local
   beyond E k [] bs = refl
   beyond E k (p ∷ ps) bs = beyond E k ps bs.1
 
 -- ---- what is owned of them: it can be had twice, it is what the call by value asks, and it is there at exit
 module _ {M : Type 1} {𝓤 : Ura M} (𝓛 : Logic 𝓤) {n : ℕ} where
-  abbrev Owned : (ps : List (Parameter n)) (κs : Lfts (suc n)) → Denots (types_at (slots (lent-side n) ps) κs) → Fml
-  Owned ps κs a = owns (types_at (slots (lent-side n) ps) κs) a (values (lent-side n) ps κs a)
+  abbrev Owned : (ps : List (Parameter n)) (κs : Lfts (suc n)) → Denots (types_at (slots (lent_side n) ps) κs) → Fml
+  Owned ps κs a = owns (types_at (slots (lent_side n) ps) κs) a (values (lent_side n) ps κs a)
 
-  pub all-copied : (ps : List (Parameter n)) (κs : Lfts (suc n)) (a : Denots (types_at (slots (lent-side n) ps) κs)) → ent 𝓤 (sem 𝓛 (Owned ps κs a)) (sep 𝓤 (sem 𝓛 (Owned ps κs a)) (sem 𝓛 (Owned ps κs a)))
-  all-copied [] κs a = emp∗ 𝓤 (emp 𝓤)
-  all-copied (p ∷ ps) κs a =
+  pub all_copied : (ps : List (Parameter n)) (κs : Lfts (suc n)) (a : Denots (types_at (slots (lent_side n) ps) κs)) → ent 𝓤 (sem 𝓛 (Owned ps κs a)) (sep 𝓤 (sem 𝓛 (Owned ps κs a)) (sem 𝓛 (Owned ps κs a)))
+  all_copied [] κs a = emp∗ 𝓤 (emp 𝓤)
+  all_copied (p ∷ ps) κs a =
       let F : Fml = p.own κs.1 a.0 (p.value a.0 ∷ []) in
       let G : Fml = Owned ps κs a.1 in
-      qed 𝓛 (‵ (fsep F G) ∷ []) ∵ fsplit ! $ use1 𝓛 (‵ F ⊛ ‵ F) (p.twice 𝓛 κs.1 a.0 (p.value a.0 ∷ [])) $ split ! $ move ! (2 ∷ []) $ use1 𝓛 (‵ G ⊛ ‵ G) (all-copied ps κs a.1) $ split ! $
+      qed 𝓛 (‵ (fsep F G) ∷ []) ∵ fsplit ! $ use1 𝓛 (‵ F ⊛ ‵ F) (p.twice 𝓛 κs.1 a.0 (p.value a.0 ∷ [])) $ split ! $ move ! (2 ∷ []) $ use1 𝓛 (‵ G ⊛ ‵ G) (all_copied ps κs a.1) $ split ! $
       move ! (2 ∷ 0 ∷ []) $ fjoin ! $ frame ! $ move ! (1 ∷ 0 ∷ []) $ fjoin ! $ done !
 
-  pub all-passed : (ps : List (Parameter n)) (κs : Lfts (suc n)) (a : Denots (types_at (slots (lent-side n) ps) κs))
-      → ent 𝓤 (sem 𝓛 (Owned ps κs a)) (sem 𝓛 (owns (types_at (slots (by-value-side n) ps) κs.1) (passed (by-value-side n) ps κs.1 (arguments (lent-side n) ps κs a)) (values (by-value-side n) ps κs.1 (passed (by-value-side n) ps κs.1 (arguments (lent-side n) ps κs a)))))
-  all-passed [] κs a = id⊢ 𝓤 (emp 𝓤)
-  all-passed (p ∷ ps) κs a = mono_r 𝓤 (sem 𝓛 (p.own κs.1 a.0 (p.value a.0 ∷ []))) (all-passed ps κs a.1)
+  pub all_passed : (ps : List (Parameter n)) (κs : Lfts (suc n)) (a : Denots (types_at (slots (lent_side n) ps) κs))
+      → ent 𝓤 (sem 𝓛 (Owned ps κs a)) (sem 𝓛 (owns (types_at (slots (by_value_side n) ps) κs.1) (passed (by_value_side n) ps κs.1 (arguments (lent_side n) ps κs a)) (values (by_value_side n) ps κs.1 (passed (by_value_side n) ps κs.1 (arguments (lent_side n) ps κs a)))))
+  all_passed [] κs a = id⊢ 𝓤 (emp 𝓤)
+  all_passed (p ∷ ps) κs a = mono_r 𝓤 (sem 𝓛 (p.own κs.1 a.0 (p.value a.0 ∷ []))) (all_passed ps κs a.1)
 
-  pub all-kept : (ps : List (Parameter n)) (κs : Lfts (suc n)) (a : Denots (types_at (slots (lent-side n) ps) κs))
-      → ent 𝓤 (sem 𝓛 (Owned ps κs a)) (sem 𝓛 (has_of κs (slots (lent-side n) ps) (all yes (slots (lent-side n) ps)) (stayed ps) a (lasts-of ps κs a) (values (lent-side n) ps κs a)))
-  all-kept [] κs a = id⊢ 𝓤 (emp 𝓤)
-  all-kept (p ∷ ps) κs a = mono_r 𝓤 (sem 𝓛 (p.own κs.1 a.0 (p.value a.0 ∷ []))) (all-kept ps κs a.1)
+  pub all_kept : (ps : List (Parameter n)) (κs : Lfts (suc n)) (a : Denots (types_at (slots (lent_side n) ps) κs))
+      → ent 𝓤 (sem 𝓛 (Owned ps κs a)) (sem 𝓛 (has_of κs (slots (lent_side n) ps) (all yes (slots (lent_side n) ps)) (stayed ps) a (lasts_of ps κs a) (values (lent_side n) ps κs a)))
+  all_kept [] κs a = id⊢ 𝓤 (emp 𝓤)
+  all_kept (p ∷ ps) κs a = mono_r 𝓤 (sem 𝓛 (p.own κs.1 a.0 (p.value a.0 ∷ []))) (all_kept ps κs a.1)
 
-  pub all_go : (ps : List (Parameter n)) → AllGo 𝓛 (suc n) (slots (lent-side n) ps) (all yes (slots (lent-side n) ps)) (stayed ps)
+  pub all_go : (ps : List (Parameter n)) → AllGo 𝓛 (suc n) (slots (lent_side n) ps) (all yes (slots (lent_side n) ps)) (stayed ps)
   all_go [] = tt
-  all_go (p ∷ ps) = (Goes-none 𝓛 (suc n) (slot (lent-side n) p).row yes (λ κs x f. refl), all_go ps)
+  all_go (p ∷ ps) = (Goes-none 𝓛 (suc n) (slot (lent_side n) p).row yes (λ κs x f. refl), all_go ps)
 
-  pub all-forget : (ps : List (Parameter n)) (bs : Blocks ps) (a : Arguments ps) → ent 𝓤 (sem 𝓛 (cells ps bs a)) (sem 𝓛 (rooms ps bs))
-  all-forget [] bs a = id⊢ 𝓤 (emp 𝓤)
-  all-forget (p ∷ ps) bs a = mono∗ 𝓤 (𝓛.laws.at_room p.lent.ty bs.0 zero (p.value a.0)) (all-forget ps bs.1 a.1)
+  pub all_forget : (ps : List (Parameter n)) (bs : Blocks ps) (a : Arguments ps) → ent 𝓤 (sem 𝓛 (cells ps bs a)) (sem 𝓛 (rooms ps bs))
+  all_forget [] bs a = id⊢ 𝓤 (emp 𝓤)
+  all_forget (p ∷ ps) bs a = mono∗ 𝓤 (𝓛.laws.at_room p.lent.ty bs.0 zero (p.value a.0)) (all_forget ps bs.1 a.1)
 
 -- ---- their locals, as steps
 module _ {M : Type 1} {𝓤 : Ura M} (𝓛 : Logic 𝓤) where
@@ -265,45 +271,45 @@ module _ {M : Type 1} {𝓤 : Ura M} (𝓛 : Logic 𝓤) where
   at_local {Γ} {E} {i} {st} found w = record { go = λ Kt h. subst (λ (e' : Ty × ℕ). ent 𝓤 (⋆ 𝓛 Γ) (walk 𝓤 H E (e'.0, e'.1, zero) st Kt)) (sym found) (w.go Kt h) }
 
   -- reading changes nothing, so it may be done in a context that is the same
-  same-opds : {Γ Δ : List (Item 𝓤)} {E : Env 𝓤 H} {xs : List Operand} {vs : List Val} → ent 𝓤 (⋆ 𝓛 Γ) (⋆ 𝓛 Δ) → ent 𝓤 (⋆ 𝓛 Δ) (⋆ 𝓛 Γ) → Opds (Go {0}) 𝓛 Δ E xs vs → Opds (Go {0}) 𝓛 Γ E xs vs
-  same-opds {Γ} {Δ} there back os = record { go = λ Kt h. via 𝓤 (⋆ 𝓛 Δ) there (os.go Kt (via 𝓤 (⋆ 𝓛 Γ) back h)) }
+  same_opds : {Γ Δ : List (Item 𝓤)} {E : Env 𝓤 H} {xs : List Operand} {vs : List Val} → ent 𝓤 (⋆ 𝓛 Γ) (⋆ 𝓛 Δ) → ent 𝓤 (⋆ 𝓛 Δ) (⋆ 𝓛 Γ) → Opds (Go {0}) 𝓛 Δ E xs vs → Opds (Go {0}) 𝓛 Γ E xs vs
+  same_opds {Γ} {Δ} there back os = record { go = λ Kt h. via 𝓤 (⋆ 𝓛 Δ) there (os.go Kt (via 𝓤 (⋆ 𝓛 Γ) back h)) }
 
 module _ {M : Type 1} {𝓤 : Ura M} (𝓛 : Logic 𝓤) {n : ℕ} where
   open 𝓛 use {H}
 
   pub alloc_all : (ps : List (Parameter n)) (ls : List Local) {Γ : List (Item 𝓤)} {Kt : Env 𝓤 H → Goal 𝓤 H}
-      → ((bs : Blocks ps) → Sq 𝓛 (‵ (rooms ps bs) ∷ ‵ (deaths ps bs) ∷ Γ) (allocs ls (λ E. Kt (env-of ps bs ++ E)))) → Sq 𝓛 Γ (allocs (locals_of ps ++ ls) Kt)
+      → ((bs : Blocks ps) → Sq 𝓛 (‵ (rooms ps bs) ∷ ‵ (deaths ps bs) ∷ Γ) (allocs ls (λ E. Kt (env_of ps bs ++ E)))) → Sq 𝓛 Γ (allocs (locals_of ps ++ ls) Kt)
   alloc_all [] ls k = nothing ! $ nothing ! $ k tt
   alloc_all (p ∷ ps) ls k = alloc1 ! (λ b. alloc_all ps ls (λ bs. move ! (2 ∷ 0 ∷ []) $ fjoin ! $ move ! (2 ∷ 1 ∷ []) $ fjoin ! $ move ! (1 ∷ 0 ∷ []) $ k (b, bs)))
 
-  pub pass_all : (ps : List (Parameter n)) (κs : Lfts (suc n)) (a : Denots (types_at (slots (lent-side n) ps) κs)) (bs : Blocks ps) (E : Env 𝓤 H) → Are (types_at (slots (lent-side n) ps) κs) (Ises (types_at (slots (lent-side n) ps) κs)) a (values (lent-side n) ps κs a)
-      → {Γ : List (Item 𝓤)} {g : Goal 𝓤 H} → Step (Go {0}) 𝓛 (‵ (cells ps bs (arguments (lent-side n) ps κs a)) ∷ Γ) g (‵ (rooms ps bs) ∷ Γ) (passes (env-of ps bs ++ E) (flat (types_at (slots (lent-side n) ps) κs) (values (lent-side n) ps κs a)) g)
+  pub pass_all : (ps : List (Parameter n)) (κs : Lfts (suc n)) (a : Denots (types_at (slots (lent_side n) ps) κs)) (bs : Blocks ps) (E : Env 𝓤 H) → Are (types_at (slots (lent_side n) ps) κs) (Ises (types_at (slots (lent_side n) ps) κs)) a (values (lent_side n) ps κs a)
+      → {Γ : List (Item 𝓤)} {g : Goal 𝓤 H} → Step (Go {0}) 𝓛 (‵ (cells ps bs (arguments (lent_side n) ps κs a)) ∷ Γ) g (‵ (rooms ps bs) ∷ Γ) (passes (env_of ps bs ++ E) (flat (types_at (slots (lent_side n) ps) κs) (values (lent_side n) ps κs a)) g)
   pass_all [] κs a bs E are = step (λ s. pass0 ! $ s)
   pass_all (p ∷ ps) κs a bs E are = step (λ s. fsplit ! $ pass1 ! (init ! 0 refl (p.typed 𝓛 κs.1 a.0 are.0).0) $ move ! (1 ∷ []) $ pass_all ps κs a.1 bs.1 E are.1 $ move ! (1 ∷ 0 ∷ []) $ fjoin ! $ s)
 
   pub free_all : (ps : List (Parameter n)) (bs : Blocks ps) {Γ : List (Item 𝓤)} {E : Env 𝓤 H} {g : Goal 𝓤 H}
-      → Step (Go {0}) 𝓛 Γ (frees E g) (‵ (rooms ps bs) ∷ ‵ (deaths ps bs) ∷ Γ) (frees (env-of ps bs ++ E) g)
+      → Step (Go {0}) 𝓛 Γ (frees E g) (‵ (rooms ps bs) ∷ ‵ (deaths ps bs) ∷ Γ) (frees (env_of ps bs ++ E) g)
   free_all [] bs = step (λ s. drop ! $ drop ! $ s)
   free_all (p ∷ ps) bs = step (λ s. fsplit ! $ move ! (2 ∷ []) $ fsplit ! $ move ! (2 ∷ 0 ∷ []) $ free1 ! $ move ! (1 ∷ 0 ∷ []) $ free_all ps bs.1 $ s)
 
   read_head : (ps : List (Parameter n)) (κs : Lfts n) (a : Arguments ps) (bs : Blocks ps) {Γ : List (Item 𝓤)} {E : Env 𝓤 H} (i : ℕ) → StandFrom E i ps bs
-      → Opds (Go {0}) 𝓛 (‵ (cells ps bs a) ∷ Γ) E (operands ps i) (flat (types_at (slots (by-value-side n) ps) κs) (values (by-value-side n) ps κs (passed (by-value-side n) ps κs a)))
+      → Opds (Go {0}) 𝓛 (‵ (cells ps bs a) ∷ Γ) E (operands ps i) (flat (types_at (slots (by_value_side n) ps) κs) (values (by_value_side n) ps κs (passed (by_value_side n) ps κs a)))
   read_head [] κs a bs i at = no_more !
   read_head (p ∷ ps) κs a bs {Γ} i at =
       let F : Fml = fat full_share p.lent.ty bs.0 zero (p.value a.0) in
       let G : Fml = cells ps bs.1 a.1 in
-      same-opds 𝓛 {Δ = ‵ F ∷ ‵ G ∷ Γ} (qed 𝓛 (‵ (fsep F G) ∷ Γ) ∵ fsplit ! $ done !) (qed 𝓛 (‵ F ∷ ‵ G ∷ Γ) ∵ fjoin ! $ done !)
+      same_opds 𝓛 {Δ = ‵ F ∷ ‵ G ∷ Γ} (qed 𝓛 (‵ (fsep F G) ∷ Γ) ∵ fsplit ! $ done !) (qed 𝓛 (‵ F ∷ ‵ G ∷ Γ) ∵ fjoin ! $ done !)
       (and_then ! (load ! (at_local 𝓛 at.0 (stop !)) (look ! 0 refl))
-      (same-opds 𝓛 {Δ = ‵ G ∷ ‵ F ∷ Γ} (qed 𝓛 (‵ F ∷ ‵ G ∷ Γ) ∵ move ! (1 ∷ 0 ∷ []) $ done !) (qed 𝓛 (‵ G ∷ ‵ F ∷ Γ) ∵ move ! (1 ∷ 0 ∷ []) $ done !)
+      (same_opds 𝓛 {Δ = ‵ G ∷ ‵ F ∷ Γ} (qed 𝓛 (‵ F ∷ ‵ G ∷ Γ) ∵ move ! (1 ∷ 0 ∷ []) $ done !) (qed 𝓛 (‵ G ∷ ‵ F ∷ Γ) ∵ move ! (1 ∷ 0 ∷ []) $ done !)
       (read_head ps κs a.1 bs.1 (suc i) at.1)))
 
   -- the call's operands: entry k of the context has the cells
   pub read_all : (ps : List (Parameter n)) (κs : Lfts n) (a : Arguments ps) (bs : Blocks ps) {Γ : List (Item 𝓤)} {E : Env 𝓤 H} (k i : ℕ) → nth 𝓛 k Γ ≡ ‵ (cells ps bs a) → StandFrom E i ps bs
-      → Opds (Go {0}) 𝓛 Γ E (operands ps i) (flat (types_at (slots (by-value-side n) ps) κs) (values (by-value-side n) ps κs (passed (by-value-side n) ps κs a)))
+      → Opds (Go {0}) 𝓛 Γ E (operands ps i) (flat (types_at (slots (by_value_side n) ps) κs) (values (by_value_side n) ps κs (passed (by_value_side n) ps κs a)))
   read_all ps κs a bs {Γ} k i found at =
       let there : ent 𝓤 (⋆ 𝓛 Γ) (⋆ 𝓛 (nth 𝓛 k Γ ∷ del 𝓛 k Γ)) = via 𝓤 _ (pull 𝓛 k Γ) (push 𝓛 (nth 𝓛 k Γ) (del 𝓛 k Γ)) in
       let back : ent 𝓤 (⋆ 𝓛 (nth 𝓛 k Γ ∷ del 𝓛 k Γ)) (⋆ 𝓛 Γ) = via 𝓤 _ (pop 𝓛 (nth 𝓛 k Γ) (del 𝓛 k Γ)) (unpull 𝓛 k Γ) in
-      same-opds 𝓛 {Δ = ‵ (cells ps bs a) ∷ del 𝓛 k Γ}
+      same_opds 𝓛 {Δ = ‵ (cells ps bs a) ∷ del 𝓛 k Γ}
       (subst (λ (j : Item 𝓤). ent 𝓤 (⋆ 𝓛 Γ) (⋆ 𝓛 (j ∷ del 𝓛 k Γ))) found there)
       (subst (λ (j : Item 𝓤). ent 𝓤 (⋆ 𝓛 (j ∷ del 𝓛 k Γ)) (⋆ 𝓛 Γ)) found back)
       (read_head ps κs a bs i at)

@@ -1,12 +1,13 @@
 -- A lent controller, its reply, and the answer that holds both: what the proof of the lent calls knows of the three structs.
 -- Each is any struct of plain data. The answer has the controller and the reply as its two fields and no other.
 -- Assumes nothing.
-use mathlib.Core.Path.{◌≡◌}
+use mathlib.Core.Path.{◌≡◌, refl}
 use mathlib.Core.List.{List, [], ◌∷◌}
 use mir.Syntax.{Sym, Ty}
 use mir.Val.{Val}
 use denote.RattleType.{RattleType, Denots}
 use denote.Laws.{Is}
+use denote.Struct.Cover.{Cover}
 use denote.Struct.Declared.{Declared, fields, row, field, shape}
 use denote.Struct.Laws as LL
 use denote.Struct.Struct.{Plains, layout}
@@ -38,34 +39,44 @@ module _ (C R : Plain) where
   abbrev both : {D : Type 0} → (D → C.type.D) → (D → R.type.D) → D → Both
   both controller reply d = (C.type.to (controller d), (R.type.to (reply d), tt))
 
-  -- an answer: a controller and a reply
+  abbrev both_values : {D : Type 0} → (D → C.type.D) → (D → R.type.D) → D → C.type.D × (R.type.D × Unit {0})
+  both_values controller reply d = (controller d, (reply d, tt))
+
+  -- an answer: a controller and a reply, and no more and no fewer (`cover`)
   pub record Pairs : Type 1 where
     pub name : Sym
     pub D : Type 0
     pub controller : D → C.type.D
     pub reply : D → R.type.D
     pub one : (x y : D) → both controller reply x ≡ both controller reply y → x ≡ y
+    pub cover : Cover D (C.type.D × (R.type.D × Unit {0})) (both_values controller reply)
+    pub propositions : (v : C.type.D × (R.type.D × Unit {0})) → IsProp (cover.Ghost v)
 
   module _ (P : Pairs) where
     abbrev pub the_type : Declared
     the_type = record {
       name = P.name;
       args = [];
+      types = [];
       parts = field C.type ∷ field R.type ∷ [];
       D = P.D;
       to = both P.controller P.reply;
       to_one = P.one;
+      as_values = both_values P.controller P.reply;
+      to_is = λ d. refl;
+      cover = P.cover;
+      propositions = P.propositions;
     }
 
     abbrev pub the_laws : LL.Laws the_type
     the_laws = (LL.field_laws C.type C.laws C.lowers, (LL.field_laws R.type R.laws R.lowers, tt))
 
-    abbrev pub the-answer : RattleType
-    the-answer = row the_type
+    abbrev pub the_answer : RattleType
+    the_answer = row the_type
 
     -- a held answer holds its controller and its reply
-    pub holds-controller : (d : P.D) (vs : List Val) → Is (row the_type) d vs → Held C (P.controller d)
-    holds-controller d vs is = (LL.owed the_type the_laws d vs is).0
+    pub holds_controller : (d : P.D) (vs : List Val) → Is (row the_type) d vs → Held C (P.controller d)
+    holds_controller d vs is = (LL.owed the_type the_laws d vs is).0
 
-    pub holds-reply : (d : P.D) (vs : List Val) → Is (row the_type) d vs → Held R (P.reply d)
-    holds-reply d vs is = (LL.owed the_type the_laws d vs is).1.0
+    pub holds_reply : (d : P.D) (vs : List Val) → Is (row the_type) d vs → Held R (P.reply d)
+    holds_reply d vs is = (LL.owed the_type the_laws d vs is).1.0
