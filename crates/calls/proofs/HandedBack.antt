@@ -4,7 +4,7 @@ use mathlib.Core.Bool.{Bool, true, false, cond}
 use Prim.Native.Nat.{ℕ}
 use lib.Dec.{eqb}
 use Rattle.rules.specs.Accepted.{accept, closes_at}
-use Rattle.rules.specs.Outcome.{Outcome, begun, next, outcome_of, alone, outcome_of_begin}
+use Rattle.rules.specs.Answer.{Answer, begun, next, answer_to, alone, answer_to_begin}
 use Rattle.rules.specs.Begin.{Begin, begin_refusal}
 use Rattle.rules.specs.Calls.{EvaluatedCall}
 use Rattle.rules.specs.Altered.{Lent, lent_refusal}
@@ -28,19 +28,19 @@ after_is lent call = go (eqb (lent_refusal lent call) 0) refl
 pub handed_back : (lent : Lent) (call : EvaluatedCall) (number : ℕ) → number ≡ lent_refusal lent call
     → (after : Lent) → after ≡ cond (eqb number 0) (on_accepted call lent) lent
     → (reply : Reply) → reply ≡ shown number after
-    → record { lent = after; reply = reply } ≡ outcome_of lent call
+    → record { lent = after; reply = reply } ≡ answer_to lent call
 handed_back lent call number p after q reply e = rw (e, q, p, after_is lent call)
 
 pub begun_back : (lent : Lent) (begin : Begin) (number : ℕ) → number ≡ begin_refusal begin
     → (after : Lent) → after ≡ begun begin → (reply : Reply) → reply ≡ shown 0 after
     → (refused : Reply) → refused ≡ alone number
     → (back : Lent) → back ≡ cond (eqb number 0) after lent → (told : Reply) → told ≡ cond (eqb number 0) reply refused
-    → record { lent = back; reply = told } ≡ outcome_of_begin lent begin
-unfolding outcome_of_begin
+    → record { lent = back; reply = told } ≡ answer_to_begin lent begin
+unfolding answer_to_begin
 begun_back lent begin number p after q reply e refused a back b told t = rw (b, t, e, q, a, p) (both (eqb (begin_refusal begin) 0))
   where
     -- the choice of the two is the two choices
-    both : (accepted : Bool) → ◌≡◌ {A = Outcome} (record { lent = cond accepted (begun begin) lent; reply = cond accepted (shown 0 (begun begin)) (alone (begin_refusal begin)) })
+    both : (accepted : Bool) → ◌≡◌ {A = Answer} (record { lent = cond accepted (begun begin) lent; reply = cond accepted (shown 0 (begun begin)) (alone (begin_refusal begin)) })
         (cond accepted (record { lent = begun begin; reply = shown 0 (begun begin) }) (record { lent = lent; reply = alone (begin_refusal begin) }))
     both true = refl
     both false = refl

@@ -1,6 +1,6 @@
 // What a call of any kind hands back.
 ghost use Rattle.std.specs.Prelude.{◌≡◌};
-ghost use Rattle.rules.specs.Outcome.{outcome_of};
+ghost use Rattle.rules.specs.Answer.{answer_to};
 ghost use Rattle.calls.specs.Answers.{handed_back};
 ghost use Rattle.controller.specs.View.{view, evaluated_at};
 
@@ -11,7 +11,7 @@ use units::Millis;
 
 // Accepted, the next controller and what is shown of it; refused, this one and its own, beside the number.
 pub(crate) fn answer(c: Controller, time: Millis, event: Event) -> Answer
-    ensures { handed_back result.reply result.controller ≡ outcome_of (view c) (evaluated_at time event) }
+    ensures { handed_back result.reply result.controller ≡ answer_to (view c) (evaluated_at time event) }
 {
     let number = refused::refusal(c, time, event);
     let accepted = number == 0;

@@ -1,6 +1,6 @@
 // Begin: the fresh controller, and what a refused begin answers.
 ghost use Rattle.std.specs.Prelude.{◌≡◌, cond};
-ghost use Rattle.rules.specs.Outcome.{begun};
+ghost use Rattle.rules.specs.Answer.{begun};
 ghost use Rattle.parts.specs.Views.{as_reply, begins_with};
 ghost use Rattle.controller.specs.View.{view};
 ghost use Rattle.calls.specs.Answers.{Begins};

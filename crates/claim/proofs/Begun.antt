@@ -6,7 +6,7 @@ use lib.Dec.{eqb}
 use borrow.Author.Tests.{eqb-true}
 use Rattle.rules.specs.Altered.{Lent}
 use Rattle.rules.specs.Begin.{Begin, begin_refusal}
-use Rattle.rules.specs.Outcome.{Outcome, begun, alone, outcome_of_begin}
+use Rattle.rules.specs.Answer.{Answer, begun, alone, answer_to_begin}
 use Rattle.rules.specs.Reply.{shown}
 use Rattle.parts.specs.Views.{as_reply}
 use Rattle.parts.specs.declared.replies.Reply.{Reply}
@@ -16,10 +16,10 @@ use Rattle.controller.proofs.Fixes.{view_fixes}
 use Rattle.calls.specs.Answers.{handed_back, Begins}
 
 -- by whether the table refuses it; a begin that replies 0 is not refused
-module _ (lent : Lent) (begin : Begin) (back : Outcome) (is : back ≡ outcome_of_begin lent begin) where
+module _ (lent : Lent) (begin : Begin) (back : Answer) (is : back ≡ answer_to_begin lent begin) where
   by : (a : Bool) → eqb (begin_refusal begin) 0 ≡ a
       → back ≡ cond a (record { lent = begun begin; reply = shown 0 (begun begin) }) (record { lent = lent; reply = alone (begin_refusal begin) })
-  unfolding outcome_of_begin
+  unfolding answer_to_begin
   by a e = is ∙ ap (λ b. cond b (record { lent = begun begin; reply = shown 0 (begun begin) }) (record { lent = lent; reply = alone (begin_refusal begin) })) e
 
   -- the number is the table's
@@ -39,7 +39,7 @@ module _ (lent : Lent) (begin : Begin) (back : Outcome) (is : back ≡ outcome_o
 -- a refused begin is no call of a list: the host gets back the controller that it lent, and the number alone
 pub refused_begin : (begin : Begin) (before : Controller) (reply : Reply) (after : Controller) → Begins begin before reply after
     → (◌≡◌ {A = ℕ} reply.refusal 0 → ⊥) → (after ≡ before) × (as_reply reply ≡ alone (begin_refusal begin))
-unfolding outcome_of_begin
+unfolding answer_to_begin
 refused_begin begin before reply after begins refused = go (eqb (begin_refusal begin) 0) refl
   where
     go : (a : Bool) → eqb (begin_refusal begin) 0 ≡ a → (after ≡ before) × (as_reply reply ≡ alone (begin_refusal begin))

@@ -5,7 +5,7 @@ use Rattle.rules.specs.Altered.{lent_refusal}
 use Rattle.rules.specs.Begin.{Begin, begin_refusal}
 use Rattle.rules.specs.Calls.{Call, evaluated_call}
 use Rattle.rules.specs.Faults.{first_of}
-use Rattle.rules.specs.Outcome.{alone}
+use Rattle.rules.specs.Answer.{alone}
 use Rattle.rules.specs.Reply.{shown}
 use Rattle.laws.specs.FaultOrder.{SomeLatched}
 use Rattle.laws.specs.RefusedExactly.{RefusedBy, BeginRefusedBy}

@@ -12,7 +12,7 @@ use Rattle.duty.specs.DutyFor.{IsGreatest}
 use Rattle.rules.specs.Altered.{altered}
 use Rattle.rules.specs.Begin.{Begin, pause_for, begin_refusal}
 use Rattle.rules.specs.Calls.{Call}
-use Rattle.rules.specs.Outcome.{begun, reply_to, lent_after, replies_to}
+use Rattle.rules.specs.Answer.{begun, reply_to, lent_after, replies_to}
 use Rattle.rules.specs.Reply.{shown}
 use Rattle.rules.specs.State.{available}
 use Rattle.laws.specs.RefusedExactly.{RefusedBy}

@@ -6,7 +6,7 @@ use lib.Dec.{eqb}
 use Rattle.rules.specs.Altered.{Lent}
 use Rattle.rules.specs.Begin.{Begin, begin_refusal}
 use Rattle.rules.specs.Calls.{Call, evaluated_call, in_turn}
-use Rattle.rules.specs.Outcome.{begun, next, reply_to, lent_after, alone, outcome_of_begin}
+use Rattle.rules.specs.Answer.{begun, next, reply_to, lent_after, alone, answer_to_begin}
 use Rattle.rules.specs.Reply.{shown}
 use Rattle.parts.specs.declared.replies.Reply.{Reply}
 use Rattle.controller.specs.View.{view}
@@ -26,7 +26,7 @@ lends_all lent [] = refl
 lends_all lent (call ∷ calls) = (controller_of (next lent (evaluated_call call)), refl, lends_all (next lent (evaluated_call call)) calls)
 
 pub has_run : (lent : Controller) (begin : Begin) (calls : List Call) → begin_refusal begin ≡ 0 → HasRun lent begin calls
-unfolding outcome_of_begin
+unfolding answer_to_begin
 has_run lent begin calls accepted = (
   reply_of (shown 0 (begun begin)),
   replies_of (begun begin) calls,
@@ -35,6 +35,6 @@ has_run lent begin calls accepted = (
   refl,
 )
   where
-    begins : record { lent = begun begin; reply = shown 0 (begun begin) } ≡ outcome_of_begin (view lent) begin
+    begins : record { lent = begun begin; reply = shown 0 (begun begin) } ≡ answer_to_begin (view lent) begin
     begins =
         sym (ap (λ n. cond (eqb n 0) (record { lent = begun begin; reply = shown 0 (begun begin) }) (record { lent = view lent; reply = alone (begin_refusal begin) })) accepted)

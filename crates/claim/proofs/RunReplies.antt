@@ -5,7 +5,7 @@ use Prim.Native.Nat.{ℕ, zero, suc, ◌<◌}
 use native.Mathlib.Nat.{not-suc-le-zero, le_of_suc-le-suc}
 use lib.ListN.{length, get_or, take}
 use Rattle.rules.specs.Calls.{Call, evaluated_call, in_turn}
-use Rattle.rules.specs.Outcome.{reply_to, lent_after, replies_to}
+use Rattle.rules.specs.Answer.{reply_to, lent_after, replies_to}
 use Rattle.lists.specs.Traces.{no_call}
 use Rattle.parts.specs.Views.{as_reply}
 use Rattle.parts.specs.declared.replies.Reply.{Reply}

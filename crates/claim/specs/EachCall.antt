@@ -2,7 +2,7 @@
 use Rattle.std.specs.Prelude.{◌≡◌, ℕ}
 use Rattle.rules.specs.Begin.{Begin}
 use Rattle.rules.specs.Calls.{Call}
-use Rattle.rules.specs.Outcome.{begun, alone}
+use Rattle.rules.specs.Answer.{begun, alone}
 use Rattle.rules.specs.Reply.{shown}
 use Rattle.laws.specs.FaultOrder.{SomeLatched}
 use Rattle.laws.specs.RefusedExactly.{RefusedBy, BeginRefusedBy}

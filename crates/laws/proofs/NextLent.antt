@@ -5,7 +5,7 @@ use lib.Dec.{eqb}
 use borrow.Author.Tests.{ne_eqb}
 use Rattle.rules.specs.Altered.{Lent, altered, lent_refusal}
 use Rattle.rules.specs.Calls.{EvaluatedCall}
-use Rattle.rules.specs.Outcome.{accept_lent, next}
+use Rattle.rules.specs.Answer.{accept_lent, next}
 use Rattle.rules.specs.Refusals.{refusal}
 
 -- a controller that was not altered is refused what the table refuses

@@ -6,7 +6,7 @@ use native.Mathlib.Omega.{arith}
 use lib.Dec.{eqb}
 use borrow.Author.Tests.{eqb-true}
 use Rattle.rules.specs.Faults.{Fault, Faults, diode, overcurrent, residual, welded, temperature, number_of, place_of, is_latched, lowest_of, lowest, first_of}
-use Rattle.laws.specs.FaultOrder.{SomeLatched, shows_none, shows_some}
+use Rattle.laws.specs.FaultOrder.{SomeLatched, none, some}
 use Rattle.laws.proofs.Latching.{is_place_lem}
 
 -- the lowest of those whose test comes out true, or the other number
@@ -46,13 +46,13 @@ unfolding lowest
 lowest_latched s = go (lowest_is (is_latched s) 0)
   where
     go : Lowest (is_latched s) 0 (lowest_of (is_latched s) 0) → SomeLatched s (lowest_of (is_latched s) 0)
-    go (found f is latched) = shows_some f is latched
-    go (not_found all is) = shows_none is all
+    go (found f is latched) = some f is latched
+    go (not_found all is) = none is all
 
 -- some latched fault is shown of any controller
 pub some_latched : (s : Faults) → SomeLatched s (first_of s)
 some_latched s = go (shown_is s)
   where
     go : Lowest (is_first s) (lowest s) (first_of s) → SomeLatched s (first_of s)
-    go (found f is first_place) = shows_some f is (is_place_lem (place_of s f) (omega (arith, eqb-true (place_of s f) 1 first_place)))
+    go (found f is first_place) = some f is (is_place_lem (place_of s f) (omega (arith, eqb-true (place_of s f) 1 first_place)))
     go (not_found all is) = rw is (lowest_latched s)

@@ -4,8 +4,8 @@ use Rattle.rules.specs.Faults.{Fault, Faults, number_of, place_of, is_latched, h
 
 -- of any controller, altered or not: some latched fault is shown, and 0 exactly if none is latched
 pub data SomeLatched (faults : Faults) (shown : ℕ) : Type 0 where
-  shows_none : shown ≡ 0 → ((f : Fault) → is_latched faults f ≡ false) → SomeLatched faults shown
-  shows_some : (f : Fault) → shown ≡ number_of f → is_latched faults f ≡ true → SomeLatched faults shown
+  none : shown ≡ 0 → ((f : Fault) → is_latched faults f ≡ false) → SomeLatched faults shown
+  some : (f : Fault) → shown ≡ number_of f → is_latched faults f ≡ true → SomeLatched faults shown
 
 -- the order holds just the latched faults, each once: their places run from 1 to how many are latched
 pub record EachOnce (faults : Faults) : Type 0 where

@@ -8,7 +8,7 @@ use native.Mathlib.Nat.{not-suc-le-zero}
 use native.Mathlib.Omega.{arith}
 use Rattle.units.proofs.Booleans.{clash}
 use Rattle.lists.specs.Demand3.{Trace, HeldSince}
-use Rattle.lists.proofs.Lawful.{Memory, Lawful, Law, Effect, refused, stays, shuts, opens, effect}
+use Rattle.lists.proofs.Lawful.{Memory, Lawful, Law, Outcome, refused, stays, shuts, opens, outcome}
 
 module _ (t : Trace) (memory : Memory) (laws : Lawful t memory) where
   -- the same among the first n calls
@@ -36,9 +36,9 @@ module _ (t : Trace) (memory : Memory) (laws : Lawful t memory) where
 
   pub held : (n : ℕ) → n ≤ t.length → t.told_closed n ≡ true → (k : ℕ) × HeldIn n k
   held zero within closed = clash closed laws.starts_open
-  held (suc n) within closed = go (effect t memory n (laws.each n within)) (held n (omega arith))
+  held (suc n) within closed = go (outcome t memory n (laws.each n within)) (held n (omega arith))
     where
-      go : Effect t memory n → (t.told_closed n ≡ true → (k : ℕ) × HeldIn n k) → (k : ℕ) × HeldIn (suc n) k
+      go : Outcome t memory n → (t.told_closed n ≡ true → (k : ℕ) × HeldIn n k) → (k : ℕ) × HeldIn (suc n) k
       go (refused out same move) earlier =
           let known = earlier (sym same ∙ closed) in
           (known.0, longer n known.0 known.1 (λ into. clash into out))
@@ -51,7 +51,7 @@ module _ (t : Trace) (memory : Memory) (laws : Lawful t memory) where
 
   pub closed_since : (n k : ℕ) → n ≤ t.length → HeldIn n k → t.told_closed n ≡ true
   closed_since zero k within since = absurd (not-suc-le-zero since.below)
-  closed_since (suc n) k within since = go (dec_lt k n) (effect t memory n law) (closed_since n k (omega arith))
+  closed_since (suc n) k within since = go (dec_lt k n) (outcome t memory n law) (closed_since n k (omega arith))
     where
       law : Law t memory n
       law = laws.each n within
@@ -65,14 +65,14 @@ module _ (t : Trace) (memory : Memory) (laws : Lawful t memory) where
             no_cause = λ j after below accepted. since.no_cause j after (omega arith) accepted;
           }
 
-      go : Dec (k < n) → Effect t memory n → (HeldIn n k → t.told_closed n ≡ true) → t.told_closed (suc n) ≡ true
+      go : Dec (k < n) → Outcome t memory n → (HeldIn n k → t.told_closed n ≡ true) → t.told_closed (suc n) ≡ true
       go (yes earlier) (refused out same move) ih = same ∙ ih (before earlier)
       go (yes earlier) (stays into same move no_cause unmet) ih = same ∙ ih (before earlier)
       go (yes earlier) (shuts into was time move met) ih = time
       go (yes earlier) (opens into closed time move why unmet forgot) ih = clash why (since.no_cause n earlier (omega arith) into)
       go (no later) what ih = here what (omega (arith, since.below))
         where
-          here : Effect t memory n → k ≡ n → t.told_closed (suc n) ≡ true
+          here : Outcome t memory n → k ≡ n → t.told_closed (suc n) ≡ true
           here (refused out same move) is = clash (rw is at since.accepted) out
           here (stays into same move no_cause unmet) is = clash (rw is at since.met) unmet
           here (shuts into was time move met) is = time

@@ -17,7 +17,7 @@ use Rattle.rules.specs.Calls.{Event, Call, sample, limit, measure, link, fault, 
 use Rattle.rules.specs.Faults.{Fault, Faults, diode, overcurrent, residual, welded, temperature, number_of, place_of, is_latched, lowest, first_of}
 use Rattle.rules.specs.Refusals.{is_accepted}
 use Rattle.rules.specs.State.{State}
-use Rattle.laws.specs.FaultOrder.{SomeLatched, shows_none, shows_some}
+use Rattle.laws.specs.FaultOrder.{SomeLatched, none as shows_none, some as shows_some}
 use Rattle.laws.specs.Reached.{Reached}
 use Rattle.laws.proofs.FaultsOfCall.{none_latched, two_behind, own_latched, own_only, one_latched, one_only, by_sample, clear_only, clear_drops, place_kept, comes_behind}
 use Rattle.laws.proofs.Latching.{is_place_lem, some_place, number_fixes, same_fault}

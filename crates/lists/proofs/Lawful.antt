@@ -52,17 +52,17 @@ module _ (t : Trace) (memory : Memory) where
     pub pause_least : (k : ℕ) → k < t.length → 1000 ≤ t.pause k
 
   -- the four effects that a call can have
-  pub data Effect (k : ℕ) : Type 0 where
-    refused : t.accepted k ≡ false → t.told_closed (suc k) ≡ t.told_closed k → memory.opening (suc k) ≡ memory.opening k → Effect k
+  pub data Outcome (k : ℕ) : Type 0 where
+    refused : t.accepted k ≡ false → t.told_closed (suc k) ≡ t.told_closed k → memory.opening (suc k) ≡ memory.opening k → Outcome k
     stays : t.accepted k ≡ true → t.told_closed (suc k) ≡ t.told_closed k → memory.opening (suc k) ≡ memory.opening k
-        → (t.told_closed k ≡ true → t.cause k ≡ false) → t.closes k ≡ false → Effect k
+        → (t.told_closed k ≡ true → t.cause k ≡ false) → t.closes k ≡ false → Outcome k
     shuts : t.accepted k ≡ true → t.told_closed k ≡ false → t.told_closed (suc k) ≡ true → memory.opening (suc k) ≡ memory.opening k
-        → t.closes k ≡ true → Effect k
+        → t.closes k ≡ true → Outcome k
     opens : t.accepted k ≡ true → t.told_closed k ≡ true → t.told_closed (suc k) ≡ false → memory.opening (suc k) ≡ set_to (t.time k)
-        → t.cause k ≡ true → t.closes k ≡ false → (memory.previous (suc k)).kept ≡ false → Effect k
+        → t.cause k ≡ true → t.closes k ≡ false → (memory.previous (suc k)).kept ≡ false → Outcome k
 
-  pub effect : (k : ℕ) → Law k → Effect k
-  effect k law = go (t.accepted k) (t.told_closed k) (t.cause k) (t.closes k) refl refl refl refl
+  pub outcome : (k : ℕ) → Law k → Outcome k
+  outcome k law = go (t.accepted k) (t.told_closed k) (t.cause k) (t.closes k) refl refl refl refl
     where
       next : (a c r m : Bool) → t.accepted k ≡ a → t.told_closed k ≡ c → t.cause k ≡ r → t.closes k ≡ m
           → t.told_closed (suc k) ≡ cond a ((c && not r) || m) c
@@ -75,7 +75,7 @@ module _ (t : Trace) (memory : Memory) where
       none_kept : t.accepted k ≡ true → memory.forgets k ≡ true → memory.previous (suc k) ≡ forgotten
       none_kept into forgets = law.previous_next ∙ rw (into, forgets)
 
-      go : (a c r m : Bool) → t.accepted k ≡ a → t.told_closed k ≡ c → t.cause k ≡ r → t.closes k ≡ m → Effect k
+      go : (a c r m : Bool) → t.accepted k ≡ a → t.told_closed k ≡ c → t.cause k ≡ r → t.closes k ≡ m → Outcome k
       go false c r m ea ec er em = refused ea (next false c r m ea ec er em ∙ sym ec) (moved false c r ea ec er)
       go true true true true ea ec er em = clash ec (law.meets em).was_open
       go true true false true ea ec er em = clash ec (law.meets em).was_open

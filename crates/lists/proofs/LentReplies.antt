@@ -12,7 +12,7 @@ use Rattle.rules.specs.Altered.{Lent, most_closings, altered, lent_refusal}
 use Rattle.rules.specs.Begin.{Begin, begin_refusal}
 use Rattle.rules.specs.Calls.{Call, EvaluatedCall, in_turn}
 use Rattle.rules.specs.Faults.{first_of}
-use Rattle.rules.specs.Outcome.{begun, next}
+use Rattle.rules.specs.Answer.{begun, next}
 use Rattle.rules.specs.Refusals.{refusal, is_accepted}
 use Rattle.rules.specs.State.{State}
 use Rattle.rules.specs.Step5Closing.{closings_by}

@@ -1,4 +1,5 @@
 -- The theorems over every list.
+pub mod Rows
 pub mod Turns
 pub mod Stepped
 pub mod Lawful
@@ -21,4 +22,3 @@ pub mod OverrunSince
 pub mod OverCurrent
 pub mod WithoutLinks
 pub mod EveryList
-pub mod Rows

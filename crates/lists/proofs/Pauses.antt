@@ -9,7 +9,7 @@ use native.Mathlib.Omega.{arith}
 use Rattle.units.proofs.Booleans.{clash}
 use Rattle.rules.specs.State.{set_to}
 use Rattle.lists.specs.Demand3.{Trace, Closing, Proves, PausedBetween}
-use Rattle.lists.proofs.Lawful.{Memory, Lawful, Effect, refused, stays, shuts, opens, effect}
+use Rattle.lists.proofs.Lawful.{Memory, Lawful, Outcome, refused, stays, shuts, opens, outcome}
 use Rattle.lists.proofs.Remembered.{Remembered, closing_meets, partner, only_one}
 
 module _ (t : Trace) (memory : Memory) (laws : Lawful t memory) where
@@ -25,7 +25,7 @@ module _ (t : Trace) (memory : Memory) (laws : Lawful t memory) where
   -- after a closing the contactor is closed, or it was opened since
   pub opened_since : (i m : ℕ) → Closing t i → i < m → m ≤ t.length → (t.told_closed m ≡ true) ⊎ ((o : ℕ) × LastOpening i o m)
   opened_since i zero closing after within = absurd (not-suc-le-zero after)
-  opened_since i (suc m) closing after within = go (dec_lt i m) (effect t memory m (laws.each m within)) (λ later. opened_since i m closing later (omega arith))
+  opened_since i (suc m) closing after within = go (dec_lt i m) (outcome t memory m (laws.each m within)) (λ later. opened_since i m closing later (omega arith))
     where
       same_opening : (o : ℕ) → LastOpening i o m → memory.opening (suc m) ≡ memory.opening m → LastOpening i o (suc m)
       same_opening o known move =
@@ -43,7 +43,7 @@ module _ (t : Trace) (memory : Memory) (laws : Lawful t memory) where
       unmoved same move (inl closed) = inl (same ∙ closed)
       unmoved same move (inr known) = inr (known.0, same_opening known.0 known.1 move)
 
-      go : Dec (i < m) → Effect t memory m → (i < m → (t.told_closed m ≡ true) ⊎ ((o : ℕ) × LastOpening i o m))
+      go : Dec (i < m) → Outcome t memory m → (i < m → (t.told_closed m ≡ true) ⊎ ((o : ℕ) × LastOpening i o m))
           → (t.told_closed (suc m) ≡ true) ⊎ ((o : ℕ) × LastOpening i o (suc m))
       go (no first) what earlier =
           let is : i ≡ m = omega arith in

@@ -7,7 +7,7 @@ use native.Mathlib.Omega.{arith}
 use Rattle.units.proofs.Booleans.{clash}
 use Rattle.laws.proofs.OneCall.{previous_by}
 use Rattle.lists.specs.Demand3.{Trace, Closing, Successive, Proves}
-use Rattle.lists.proofs.Lawful.{Memory, Lawful, Law, Meets, Effect, refused, stays, shuts, opens, effect}
+use Rattle.lists.proofs.Lawful.{Memory, Lawful, Law, Meets, Outcome, refused, stays, shuts, opens, outcome}
 
 module _ (t : Trace) (memory : Memory) (laws : Lawful t memory) where
   -- the sample j is the previous one before call k
@@ -22,9 +22,9 @@ module _ (t : Trace) (memory : Memory) (laws : Lawful t memory) where
   module _ (k : ℕ) (law : Law t memory k) (keeps : (memory.previous (suc k)).kept ≡ true) where
     -- a call after which a previous sample is kept is no opening
     not_opening : t.told_closed k ≡ true → t.told_closed (suc k) ≡ false → ⊥
-    not_opening closed opened = go (effect t memory k law)
+    not_opening closed opened = go (outcome t memory k law)
       where
-        go : Effect t memory k → ⊥
+        go : Outcome t memory k → ⊥
         go (refused out same move) = clash closed (sym same ∙ opened)
         go (stays into same move no_cause unmet) = clash closed (sym same ∙ opened)
         go (shuts into was time move met) = clash closed was
@@ -94,12 +94,12 @@ module _ (t : Trace) (memory : Memory) (laws : Lawful t memory) where
 
   -- a closing is an accepted call that met every closing condition
   pub closing_meets : (k : ℕ) → Closing t k → (t.accepted k ≡ true) × Meets t memory k
-  closing_meets k closing = go (effect t memory k law)
+  closing_meets k closing = go (outcome t memory k law)
     where
       law : Law t memory k
       law = laws.each k closing.0
 
-      go : Effect t memory k → (t.accepted k ≡ true) × Meets t memory k
+      go : Outcome t memory k → (t.accepted k ≡ true) × Meets t memory k
       go (refused out same move) = clash closing.2 (same ∙ closing.1)
       go (stays into same move no_cause unmet) = clash closing.2 (same ∙ closing.1)
       go (shuts into was time move met) = (into, law.meets met)

@@ -9,7 +9,7 @@ use Rattle.units.proofs.Booleans.{clash}
 use Rattle.rules.specs.Altered.{most_closings}
 use Rattle.rules.specs.Step5Closing.{closings_by}
 use Rattle.lists.specs.Demand3.{Trace, Closing, closings_in, least_pause, Spans}
-use Rattle.lists.proofs.Lawful.{Memory, Lawful, Law, Effect, refused, stays, shuts, opens, effect}
+use Rattle.lists.proofs.Lawful.{Memory, Lawful, Law, Outcome, refused, stays, shuts, opens, outcome}
 use Rattle.lists.proofs.Pauses.{LastOpening, between, paused}
 use Rattle.lists.proofs.Remembered.{closing_meets}
 
@@ -191,19 +191,19 @@ module _ (t : Trace) (memory : Memory) (laws : Lawful t memory) where
   pub counts : (n : ℕ) → n ≤ t.length → t.carried n ≡ closings_in t n
   unfolding closings_by
   counts zero within = laws.starts_at_none
-  counts (suc n) within = go (effect t memory n law) (counts n (omega arith))
+  counts (suc n) within = go (outcome t memory n law) (counts n (omega arith))
     where
       law : Law t memory n
       law = laws.each n within
 
-      go : Effect t memory n → t.carried n ≡ closings_in t n → t.carried (suc n) ≡ closings_in t (suc n)
+      go : Outcome t memory n → t.carried n ≡ closings_in t n → t.carried (suc n) ≡ closings_in t (suc n)
       go what ih = law.carried_next ∙ tally what
         where
           quiet : (b : Bool) → not b && b ≡ false
           quiet true = refl
           quiet false = refl
 
-          tally : Effect t memory n → closings_by (t.accepted n && t.closes n) (t.carried n) ≡ closings_in t (suc n)
+          tally : Outcome t memory n → closings_by (t.accepted n && t.closes n) (t.carried n) ≡ closings_in t (suc n)
           tally (refused out same move) = rw (out, same, quiet (t.told_closed n), ih)
           tally (stays into same move no_cause unmet) = rw (into, unmet, same, quiet (t.told_closed n), ih)
           tally (shuts into was time move met) = rw (into, met, was, time, ih)

@@ -9,7 +9,7 @@ use Rattle.units.proofs.Booleans.{clash}
 use Rattle.rules.specs.Altered.{Lent, altered, lent_refusal}
 use Rattle.rules.specs.Begin.{Begin, fresh}
 use Rattle.rules.specs.Calls.{Event, Call, sample, limit, measure, link, fault, clear, tick, evaluated, evaluated_call, in_turn}
-use Rattle.rules.specs.Outcome.{begun, next, reply_to, lent_after, replies_to}
+use Rattle.rules.specs.Answer.{begun, next, reply_to, lent_after, replies_to}
 use Rattle.rules.specs.Refusals.{or_else, time_refusal, link_refusal, argument_refusal}
 use Rattle.laws.proofs.NextLent.{next_by}
 use Rattle.lists.specs.WithoutLinks.{is_link, without_links, replies_to_others, LinksChangeNothing}

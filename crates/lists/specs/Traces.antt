@@ -4,7 +4,7 @@ use Rattle.rules.specs.Accepted.{grant_at, closes_at, cause_at}
 use Rattle.rules.specs.Altered.{Lent}
 use Rattle.rules.specs.Begin.{Begin}
 use Rattle.rules.specs.Calls.{Call, EvaluatedCall, tick, evaluated_call, is_sample}
-use Rattle.rules.specs.Outcome.{begun, reply_to, lent_after}
+use Rattle.rules.specs.Answer.{begun, reply_to, lent_after}
 use Rattle.rules.specs.Pairs.{verdict}
 use Rattle.rules.specs.Refusals.{is_accepted}
 use Rattle.rules.specs.Reply.{Reply, shown}

@@ -3,7 +3,7 @@ use Rattle.std.specs.Prelude.{◌≡◌, Bool, true, false, cond, List, [], ◌�
 use Rattle.rules.specs.Altered.{Lent}
 use Rattle.rules.specs.Begin.{Begin}
 use Rattle.rules.specs.Calls.{Event, Call, sample, limit, measure, link, fault, clear, tick, evaluated_call}
-use Rattle.rules.specs.Outcome.{begun, next, reply_to, lent_after, replies_to}
+use Rattle.rules.specs.Answer.{begun, next, reply_to, lent_after, replies_to}
 use Rattle.rules.specs.Reply.{Reply}
 
 -- a link call

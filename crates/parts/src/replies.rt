@@ -1,6 +1,6 @@
 // The reply: what is shown of a controller, beside the refusal number.
 ghost use Rattle.std.specs.Prelude.{◌≡◌, cond};
-ghost use Rattle.rules.specs.Outcome.{alone};
+ghost use Rattle.rules.specs.Answer.{alone};
 ghost use Rattle.rules.specs.Reply.{letter_f, letter_u, letter, digit};
 ghost use Rattle.parts.specs.Views.{as_reply};
 

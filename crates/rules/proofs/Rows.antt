@@ -5,7 +5,6 @@ pub mod Values
 pub mod Sequences
 pub mod Computing
 pub mod BenchRows
-pub mod BenchRowsHold
 pub mod LineRows
 pub mod OtherRows
 pub mod StateRows
@@ -13,3 +12,4 @@ pub mod SlowingRows
 pub mod FaultRows
 pub mod RangeRows
 pub mod DigitalRows
+pub mod BenchRowsHold

@@ -14,4 +14,4 @@ pub mod Step5Closing
 pub mod Accepted
 pub mod Altered
 pub mod Reply
-pub mod Outcome
+pub mod Answer

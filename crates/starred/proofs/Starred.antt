@@ -16,7 +16,7 @@ use Rattle.rules.specs.Altered.{Lent}
 use Rattle.rules.specs.Lines.{no_currents}
 use Rattle.rules.specs.Reply.{Reply, letter_u, shown}
 use Rattle.rules.specs.State.{empty, set_to, forgotten}
-use Rattle.rules.specs.Outcome.{lent_after, replies_to}
+use Rattle.rules.specs.Answer.{lent_after, replies_to}
 use Rattle.rules.specs.Calls.{Call, in_turn}
 use Rattle.rules.proofs.Rows.BenchRows.{first_charge}
 use Rattle.rules.proofs.Rows.BenchRowsHold.{first_charge_lem}

@@ -1,12 +1,11 @@
 -- The sequences of document 01, "Bench figures". BenchRowsHold.antt computes them on the definitions.
-use mathlib.Core.Bool.{true, false, not}
+use mathlib.Core.Bool.{true, false}
 use mathlib.Core.List.{List, [], ◌∷◌, ◌++◌}
-use Prim.Native.Nat.{ℕ, ◌+◌}
+use Prim.Native.Nat.{ℕ}
 use Rattle.pilot.specs.Bands.{band_b, band_c}
 use Rattle.rules.specs.Calls.{limit, measure, tick}
 use Rattle.rules.specs.Reply.{letter_f, letter_u}
 use Rattle.rules.proofs.Rows.Sequences.{Sequence, steady_at, driven_at, call, every, on, row, showing, at32_a, at32_a_with, charging, LevelCall}
-use Rattle.rules.specs.Outcome.{next}
 use Rattle.rules.specs.Lines.{Lines, on_line1}
 
 -- starred: B2 and 533, closed at 40, and open 81 after the last sound sample

@@ -7,10 +7,9 @@ use lib.Dec.{leb}
 use borrow.Author.Tests.{lt-leb, le-leb, le-ltb}
 use Rattle.pilot.specs.Bands.{band_c}
 use Rattle.rules.specs.Begin.{default_pause}
-use Rattle.rules.specs.Calls.{limit}
 use Rattle.rules.specs.Faults.{no_faults}
 use Rattle.rules.proofs.Rows.Sequences.{driven_at, call, on, at32_a, at32_a_with, Tells, AllTell}
-use Rattle.rules.specs.Outcome.{next}
+use Rattle.rules.specs.Answer.{next}
 use Rattle.rules.specs.Altered.{Lent}
 use Rattle.rules.specs.Lines.{Lines, no_currents, on_line1}
 use Rattle.rules.specs.State.{Moment, set_to, empty}

@@ -8,8 +8,7 @@ use native.Mathlib.Omega.{arith}
 use Rattle.units.proofs.Booleans.{and_parts}
 use Rattle.rules.specs.Altered.{Lent}
 use Rattle.rules.specs.Calls.{evaluated_call}
-use Rattle.rules.specs.Outcome.{next, reply_to, lent_after, replies_to}
-use Rattle.rules.specs.Reply.{Reply}
+use Rattle.rules.specs.Answer.{next, reply_to, lent_after, replies_to}
 use Rattle.rules.proofs.Rows.Replies.{same_reply, same_reply_lem}
 use Rattle.rules.proofs.Rows.Sequences.{LevelCall, Entry, Sequence, call_of, evaluated_of, evaluated_is, is_square, all_square, Tells, lent_on, lent_on_lem}
 use Rattle.rules.proofs.Rows.Values.{computing, computing_is}

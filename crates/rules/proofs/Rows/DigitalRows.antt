@@ -6,7 +6,7 @@ use Prim.Native.Nat.{ℕ}
 use Rattle.units.specs.Range.{from_to}
 use Rattle.units.specs.Wave.{driven, driven_in}
 use Rattle.pilot.specs.Bands.{band_a, band_b, band_c}
-use Rattle.rules.specs.Outcome.{begun, lent_after}
+use Rattle.rules.specs.Answer.{begun, lent_after}
 use Rattle.rules.specs.Begin.{rated_allowed, pause_allowed}
 use Rattle.rules.specs.Calls.{Event, limit, measure, link, fault, clear, tick}
 use Rattle.rules.specs.Faults.{no_faults, any_fault}

@@ -3,7 +3,7 @@ use mathlib.Core.Path.{◌≡◌, refl, ◌∙◌, ap}
 use mathlib.Core.Bool.{true, false}
 use mathlib.Core.List.{List, [], ◌∷◌, ◌++◌, map}
 use Prim.Native.Nat.{ℕ}
-use Rattle.rules.specs.Outcome.{lent_after}
+use Rattle.rules.specs.Answer.{lent_after}
 use Rattle.rules.specs.Calls.{Event, fault, clear, tick}
 use Rattle.rules.specs.Faults.{Faults}
 use Rattle.rules.specs.Altered.{Lent}

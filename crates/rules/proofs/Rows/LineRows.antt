@@ -4,7 +4,7 @@ use mathlib.Core.List.{List, [], ◌∷◌}
 use mathlib.Core.Path.{◌≡◌, refl}
 use Prim.Native.Nat.{ℕ}
 use Rattle.pilot.specs.Bands.{band_b, band_c}
-use Rattle.rules.specs.Outcome.{outcome_of_begin}
+use Rattle.rules.specs.Answer.{answer_to_begin}
 use Rattle.rules.specs.Begin.{Begin, begin_refusal}
 use Rattle.rules.specs.Calls.{limit, measure, fault, clear, tick}
 use Rattle.rules.specs.Faults.{no_faults}
@@ -103,9 +103,9 @@ begin_at rated = record { time = 0; rated = rated; pause = 3000; ventilation = f
 
 abbrev pub BeginRow : Type 0
 BeginRow =
-    (outcome_of_begin above_all (begin_at 5999)
+    (answer_to_begin above_all (begin_at 5999)
     ≡ record { lent = above_all; reply = record { refusal = 1; letter = 0; digit = 0; wave = 0; closed = false; fault = 0; closings = 0; lines = on 0 0 0 } })
-    × ((outcome_of_begin above_all (begin_at 6000)).reply.lines ≡ on 0 0 0)
+    × ((answer_to_begin above_all (begin_at 6000)).reply.lines ≡ on 0 0 0)
 
 abbrev pub line_rows : List Sequence
 line_rows = lines_kept ∷ lines_refused ∷ lines_lent ∷ []
@@ -123,7 +123,7 @@ unfolding computed
 lines_lent_lem = tells_by lines_lent _ refl refl refl refl
 
 pub begin_row : BeginRow
-unfolding computed outcome_of_begin begin_refusal
+unfolding computed answer_to_begin begin_refusal
 begin_row = (refl, refl)
 
 pub line_rows_lem : AllTell line_rows

@@ -16,7 +16,7 @@ use Rattle.duty.specs.DutyFor.{at_most, allowed, or_refusal, duty_for}
 use Rattle.duty.specs.GreatestBelow.{or_else, greatest_below}
 use Rattle.duty.specs.Reading.{reading_of}
 use Rattle.window.specs.Evaluation.{Evaluation, levels, reading_allowed}
-use Rattle.rules.specs.Outcome.{begun, next, reply_to, lent_after, replies_to}
+use Rattle.rules.specs.Answer.{begun, next, reply_to, lent_after, replies_to}
 use Rattle.rules.specs.Calls.{Event, Call, sample, limit, measure, link, fault, clear, tick, evaluated_call, EvaluatedCall, evaluated, in_turn}
 use Rattle.rules.specs.Faults.{any_fault, how_many, put_at, latch, lowest, first_of}
 use Rattle.rules.specs.Altered.{Lent, duty_allowed, wave_allowed, stored_allowed, times_allowed, in_range, altered, lent_refusal}

@@ -5,7 +5,7 @@ use mathlib.Core.List.{List, [], ◌∷◌, ◌++◌, map}
 use mathlib.Core.Path.{◌≡◌, refl, ◌∙◌, ap}
 use Prim.Native.Nat.{ℕ}
 use Rattle.pilot.specs.Bands.{band_c}
-use Rattle.rules.specs.Outcome.{lent_after}
+use Rattle.rules.specs.Answer.{lent_after}
 use Rattle.rules.specs.Calls.{Event, limit, measure, tick}
 use Rattle.rules.specs.Faults.{no_faults}
 use Rattle.rules.specs.Altered.{Lent}

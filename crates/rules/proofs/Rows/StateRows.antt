@@ -4,7 +4,7 @@ use mathlib.Core.Bool.{Bool, true, false}
 use mathlib.Core.List.{List, [], ◌∷◌, map}
 use Prim.Native.Nat.{ℕ}
 use Rattle.pilot.specs.Bands.{band_c}
-use Rattle.rules.specs.Outcome.{lent_after}
+use Rattle.rules.specs.Answer.{lent_after}
 use Rattle.rules.specs.Begin.{fresh, pause_for}
 use Rattle.rules.specs.Calls.{measure, fault, tick}
 use Rattle.rules.specs.Faults.{Faults, no_faults}

@@ -26,21 +26,21 @@ abbrev pub reply_to : Lent → EvaluatedCall → Reply
 reply_to lent call = shown (lent_refusal lent call) (next lent call)
 
 -- what a call hands back, whole
-pub record Outcome : Type 0 where
+pub record Answer : Type 0 where
   pub lent : Lent
   pub reply : Reply
 
 -- lent any controller: what the call hands back
-abbrev pub outcome_of : Lent → EvaluatedCall → Outcome
-outcome_of lent call = record { lent = next lent call; reply = reply_to lent call }
+abbrev pub answer_to : Lent → EvaluatedCall → Answer
+answer_to lent call = record { lent = next lent call; reply = reply_to lent call }
 
 -- a refusal that comes alone: zeros beside the number
 abbrev pub alone : ℕ → Reply
 alone number = record { refusal = number; letter = 0; digit = 0; wave = 0; closed = false; fault = 0; closings = 0; lines = no_currents }
 
 -- begin, lent any controller: accepted, the fresh one and what is shown of it; refused, the lent one, and the number alone
-unfoldable pub outcome_of_begin : Lent → Begin → Outcome
-outcome_of_begin lent begin =
+unfoldable pub answer_to_begin : Lent → Begin → Answer
+answer_to_begin lent begin =
     cond (eqb (begin_refusal begin) 0)
     (record { lent = begun begin; reply = shown 0 (begun begin) })
     (record { lent = lent; reply = alone (begin_refusal begin) })
