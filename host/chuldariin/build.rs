@@ -1,4 +1,4 @@
-//! Links the proved archive, libchuldariin.a, which `rt staticlib chuldariin` writes to target/staticlib/ at the top of the repository.
+//! Links the proved archive, libchuldariin.a, which `./archive` writes to target/staticlib/ at the top of the repository.
 //! `CHULDARIIN_LIB` names another folder.
 use std::env;
 use std::path::PathBuf;
@@ -18,7 +18,7 @@ fn main() {
     let archive = match folder.join("libchuldariin.a").canonicalize() {
         Ok(archive) => archive,
         Err(_) => fail(&format!(
-            "{} is missing: run `rt staticlib chuldariin` at the top of the repository, or set CHULDARIIN_LIB to the absolute path of the folder that has libchuldariin.a",
+            "{} is missing: run `./archive` at the top of the repository, or set CHULDARIIN_LIB to the absolute path of the folder that has libchuldariin.a",
             folder.join("libchuldariin.a").display()
         )),
     };

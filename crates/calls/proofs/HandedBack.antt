@@ -9,7 +9,7 @@ use Rattle.rules.specs.Begin.{Begin, begin_refusal}
 use Rattle.rules.specs.Calls.{EvaluatedCall}
 use Rattle.rules.specs.Altered.{Lent, lent_refusal}
 use Rattle.rules.specs.Reply.{Reply, shown}
-use Rattle.rules.proofs.CountInRange.{count_in_range}
+use Rattle.rules.proofs.TakenCounts.{count_in_range}
 use Rattle.parts.proofs.CountLaws.{counted_whole}
 use Rattle.controller.specs.View.{on_accepted}
 

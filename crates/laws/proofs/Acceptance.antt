@@ -10,7 +10,7 @@ use Rattle.rules.specs.Begin.{Begin, largest_time, rated_allowed, pause_allowed,
 use Rattle.rules.specs.Calls.{EvaluatedCall}
 use Rattle.rules.specs.Refusals.{time_refusal, argument_refusal, refusal, is_accepted}
 use Rattle.rules.specs.State.{State}
-use Rattle.rules.proofs.CountInRange.{neither}
+use Rattle.rules.proofs.TakenCounts.{neither}
 
 module _ (s : State) (call : EvaluatedCall) (into : is_accepted s call ≡ true) where
   both : (time_refusal s.last call.time ≡ 0) × (argument_refusal s.settings.digital call.event ≡ 0)

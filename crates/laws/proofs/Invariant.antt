@@ -8,7 +8,6 @@ use Rattle.rules.specs.Accepted.{accept}
 use Rattle.rules.specs.Begin.{Begin, fresh}
 use Rattle.rules.specs.Calls.{EvaluatedCall}
 use Rattle.rules.specs.Faults.{any_fault}
-use Rattle.rules.specs.Pairs.{verdict}
 use Rattle.rules.specs.Refusals.{is_accepted}
 use Rattle.rules.specs.State.{State, available}
 use Rattle.rules.specs.Step3Wave.{unventilated_d}

@@ -12,7 +12,7 @@ use Rattle.units.proofs.Booleans.{clash}
 use Rattle.pilot.specs.Bands.{band_a, band_b, band_c, band_d, band_e, ready}
 use Rattle.duty.specs.DutyFor.{IsGreatest}
 use Rattle.rules.specs.Accepted.{after_latch, accept}
-use Rattle.rules.specs.Calls.{fault, EvaluatedCall}
+use Rattle.rules.specs.Calls.{EvaluatedCall}
 use Rattle.rules.specs.Faults.{any_fault}
 use Rattle.rules.specs.State.{State, is_driven, available}
 use Rattle.rules.specs.Step3Wave.{is_settled, is_uae}

@@ -13,3 +13,4 @@ pub mod FaultRows
 pub mod RangeRows
 pub mod DigitalRows
 pub mod BenchRowsHold
+pub mod TimedRowsHold

@@ -1,7 +1,7 @@
 use mathlib.Core.Path.{refl, ◌∙◌, sym, ap}
 use native.Mathlib.Omega.{arith}
 use native.Mathlib.Nat.{zero-add}
-use Rattle.std.proofs.Common.{◌≡◌, ◌+◌, length, drop}
+use Rattle.std.proofs.Common.{◌+◌, length, drop}
 use Rattle.window.specs.Support.{supported, needed}
 use Rattle.window.specs.Evaluation.{Evaluation}
 use Rattle.window.specs.Search.{widen, gather}

@@ -1,0 +1,2 @@
+-- A lemma that belongs to no one function.
+mod Levels
