@@ -1,5 +1,5 @@
 -- The theorems over every list.
-pub mod ComputedRows
+pub mod CallRows
 pub mod Turns
 pub mod Stepped
 pub mod Lawful
