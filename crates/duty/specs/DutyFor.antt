@@ -27,7 +27,7 @@ or_refusal number none = refusal number
 or_refusal number (some d) = duty d
 
 -- the duty for an available current: the greatest that is allowed, or refusal 10 where none is. When that is so is a law
--- (proofs/Laws.antt, refused-exactly).
+-- (proofs/Laws.antt, refused_exactly).
 unfoldable pub duty_for : ℕ → Sends
 duty_for available = or_refusal 10 (greatest_below (allowed available) 961)
 

@@ -1,7 +1,7 @@
 -- Support of a reading (document 01, "Window to levels"). Readings are in millivolts.
 use Rattle.std.specs.Prelude.{Bool, cond, List, [], ◌∷◌, ℕ, suc, leb, ℤ, ◌-ℤ◌, nat_abs, length}
 
--- two readings that differ by at most 200 m_v
+-- two readings that differ by at most 200 mV
 unfoldable pub near : ℤ → ℤ → Bool
 near a b = leb (nat_abs (a -ℤ b)) 200
 
