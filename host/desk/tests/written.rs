@@ -2,7 +2,7 @@
 
 use std::fs::{self, Permissions};
 use std::os::unix::fs::{symlink, PermissionsExt};
-use std::path::Path;
+use std::path::{Path, PathBuf};
 use tool::{file, name, run, text, CHARGE};
 
 mod tool;
@@ -52,28 +52,43 @@ fn what_can_not_be_written_leaves_what_was_there() {
     assert_eq!(plot(&nowhere).0, Some(1));
 }
 
+/// A link, which is gone at the end of its test: `rt` works in no repository that has links.
+struct Link(PathBuf);
+
+impl Link {
+    fn new(to: &str, path: PathBuf) -> Link {
+        symlink(to, &path).expect("a link");
+        Link(path)
+    }
+
+    fn is_there(&self) -> bool {
+        fs::symlink_metadata(&self.0).is_ok_and(|about| about.is_symlink())
+    }
+}
+
+impl Drop for Link {
+    fn drop(&mut self) {
+        fs::remove_file(&self.0).ok();
+    }
+}
+
 #[test]
 fn a_link_stays_a_link() {
     let target = file("target.svg", b"old");
-    let link = target.with_file_name("link.svg");
-    symlink("target.svg", &link).expect("a link");
-    assert_eq!(plot(&link).0, Some(0));
-    assert!(
-        is_picture(&target) && fs::symlink_metadata(&link).is_ok_and(|about| about.is_symlink())
-    );
+    let link = Link::new("target.svg", target.with_file_name("link.svg"));
+    assert_eq!(plot(&link.0).0, Some(0));
+    assert!(is_picture(&target) && link.is_there());
     // Also one that leads to nothing yet.
-    let link = target.with_file_name("other.svg");
-    symlink("new.svg", &link).expect("a link");
-    assert_eq!(plot(&link).0, Some(0));
+    let link = Link::new("new.svg", target.with_file_name("other.svg"));
+    assert_eq!(plot(&link.0).0, Some(0));
     assert!(is_picture(&target.with_file_name("new.svg")));
-    assert!(fs::symlink_metadata(&link).is_ok_and(|about| about.is_symlink()));
+    assert!(link.is_there());
 }
 
 #[test]
 fn a_device_is_written_as_it_is() {
-    let out = file("x", b"").with_file_name("full.svg");
-    symlink("/dev/full", &out).expect("a link");
-    let (status, said) = plot(&out);
+    let out = Link::new("/dev/full", file("x", b"").with_file_name("full.svg"));
+    let (status, said) = plot(&out.0);
     assert_eq!(status, Some(1), "{said}");
     assert!(said.contains("No space left"), "{said}");
     assert!(fs::metadata("/dev/full").is_ok_and(|about| !about.is_file()));
