@@ -48,7 +48,6 @@ pub(crate) fn altered(c: Controller) -> bool
 }
 
 // 3, then 2, then 1, then those for the arguments; 0 if the call is accepted.
-#[tactic(auto, unfolding(rules::specs::Altered::lent_refusal))]
 pub(crate) fn refusal(c: Controller, time: Millis, event: Event) -> u8
     ensures { result ≡ lent_refusal (view c) (evaluated_at time event) }
 {

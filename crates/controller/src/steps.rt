@@ -35,7 +35,6 @@ impl Controller {
     }
 
     // The lesser of rated and limit.
-    #[tactic(auto, unfolding(rules::specs::State::available))]
     pub(crate) fn available(self) -> Milliamps
         ensures { result.0 ≡ available (state_of self) }
     {
@@ -101,7 +100,6 @@ impl Controller {
     }
 
     // Step 2: latches.
-    #[tactic(auto, unfolding(rules::specs::Step2Latches::latched))]
     pub(crate) fn latch(mut self, faultcall: bool, time: Millis, pair: Pair) -> Controller
         ensures { view result ≡ on_state (step_latch faultcall time.0 (as_pair pair)) (view self) }
     {
@@ -130,7 +128,6 @@ impl Controller {
     }
 
     // Step 3: the wave, and what follows from it for the over-run and the stop.
-    #[tactic(auto, unfolding(rules::specs::Step3Wave::wave_for))]
     pub(crate) fn wave(mut self, time: Millis) -> Controller
         ensures { view result ≡ on_state (step_wave time.0) (view self) }
     {
@@ -148,7 +145,6 @@ impl Controller {
     }
 
     // An opening cause holds: i, ii, iii, iv or v.
-    #[tactic(auto, unfolding(rules::specs::Step4Opening::cause, rules::specs::Step4Opening::cause1, rules::specs::Step4Opening::cause2, rules::specs::Step4Opening::cause3, rules::specs::Step4Opening::cause4, rules::specs::Step4Opening::cause5))]
     pub(crate) fn cause(self, time: Millis, pair: Pair) -> bool
         ensures { result ≡ cause time.0 (as_pair pair) (state_of self) }
     {
@@ -192,7 +188,6 @@ impl Controller {
     }
 
     // Every closing condition is met.
-    #[tactic(auto, unfolding(rules::specs::Step5Closing::closes, rules::specs::Step5Closing::pause_over))]
     pub(crate) fn closes(self, opened: bool, time: Millis, pair: Pair) -> bool
         ensures { result ≡ closes opened time.0 (as_pair pair) (state_of self) }
     {

@@ -54,7 +54,6 @@ fn sent(greatest: Greatest) -> u32
     }
 }
 
-#[tactic(auto, unfolding(rules::specs::Step3Wave::sent, duty::specs::DutyFor::duty_for))]
 fn sent_for(available: Milliamps) -> u32
     ensures { result ≡ sent (duty_for available.0) }
 {
