@@ -7,11 +7,13 @@ use Prim.Native.Nat.{ℕ, ◌≤◌, ◌<◌}
 use native.Mathlib.Decide.{dec_lt}
 use native.Mathlib.Nat.{zero-add}
 use native.Mathlib.Omega.{arith}
+use Rattle.std.specs.Prelude.{Result}
 use lib.Dec.{eqb}
 use lib.ListN.{get_or, length, get_or-eq_default}
 use Rattle.units.specs.Range.{from_to}
 use Rattle.duty.specs.Reading.{Reads, no_charging, digital_only, current, refused, reading_of}
 use Rattle.duty.specs.Numbers.{as_reads}
+use Rattle.duty.specs.declared.AboveScale.{AboveScale}
 use Rattle.duty.specs.declared.Reading.{Reading}
 use Rattle.duty.proofs.Values.{values, value_at}
 use Rattle.duty.proofs.Table.{entries}
@@ -53,5 +55,5 @@ reads_as_tabled d = go (dec_lt d 1002)
 
 -- an answer that meets the contract of reading_of (`Post`, which is made from src/; the duty stands there at entry and at exit) is the one that the old
 -- table gave
-pub as_the_table : (duty : ℕ) (r : Reading) → Post tt (duty, tt) r (duty, tt) → as_reads r ≡ tabled duty
+pub as_the_table : (duty : ℕ) (r : Result Reading AboveScale) → Post tt (duty, tt) r (duty, tt) → as_reads r ≡ tabled duty
 as_the_table duty r meets = meets ∙ reads_as_tabled duty

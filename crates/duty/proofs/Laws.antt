@@ -5,15 +5,16 @@ use mathlib.Core.Logic.{◌↔◌}
 use Prim.Native.Nat.{ℕ, ◌+◌, ◌*◌, ◌-◌, ◌/◌, ◌≤◌, ◌<◌}
 use native.Mathlib.Decide.{dec_lt}
 use native.Mathlib.Omega.{arith}
+use Rattle.std.specs.Prelude.{Result, Ok, Err}
 use Rattle.units.proofs.Booleans.{both_ways}
 use Rattle.units.specs.Range.{from_to}
 use Rattle.duty.specs.Reading.{Reads, no_charging, digital_only, current, refused, reading_of}
 use Rattle.duty.specs.DutyFor.{Sends, duty, refusal, allowed, or_refusal, duty_for, IsGreatest}
 use Rattle.duty.specs.Numbers.{as_reads, as_sends}
+use Rattle.duty.specs.declared.AboveScale.{AboveScale}
 use Rattle.duty.specs.declared.Reading.{Reading}
-use Rattle.duty.specs.declared.Reading.TheVariants.{NoCharging, DigitalOnly, Current, AboveScale}
-use Rattle.duty.specs.declared.Greatest.{Greatest}
-use Rattle.duty.specs.declared.Greatest.TheVariants.{Duty, TooLow}
+use Rattle.duty.specs.declared.Reading.TheVariants.{NoCharging, DigitalOnly, Current}
+use Rattle.duty.specs.declared.TooLow.{TooLow}
 use Rattle.duty.proofs.Values.{same_at}
 use Rattle.duty.proofs.GreatestBelow.{is_greatest, none_greatest}
 use Rattle.duty.proofs.Ranges.{reads_lower, reads_upper, above_scale, allowed_by, denied_by, denied_under}
@@ -100,6 +101,19 @@ module _ (available : ℕ) where
           let m = reads_more available e (omega arith) (omega arith) (λ u. omega arith) (λ u. omega arith) in
           denied_by available e m.0 (omega arith) (omega arith) m.1 m.2
 
+  -- the duty that is sent, range by range
+  pub sent_lower : 6000 ≤ available → available < 51000 → duty (available / 60) ≡ duty_for available
+  sent_lower h k = sym (unique _ _ (greatest_lower h k))
+
+  pub sent_between : 51000 ≤ available → available < 52750 → duty 850 ≡ duty_for available
+  sent_between h k = sym (unique _ _ (greatest_between h k))
+
+  pub sent_upper : 52750 ≤ available → available < 80000 → duty (available / 250 + 640) ≡ duty_for available
+  sent_upper h k = sym (unique _ _ (greatest_upper h k))
+
+  pub sent_top : 80000 ≤ available → duty 960 ≡ duty_for available
+  sent_top h = sym (unique _ _ (greatest_top h))
+
   -- refusal 10 comes below 6,000, and for nothing else
   pub refused_exactly : (duty_for available ≡ refusal 10) ↔ (available < 6000)
   refused_exactly = (λ r. go r (dec_lt available 6000), too_low)
@@ -148,30 +162,30 @@ only_nine d number r = go (dec_lt 1000 d)
     go (no within) = both_ways (sym (on_scale d (omega arith)) ∙ ap is_read r)
 
 -- an answer's meaning fixes the answer: each map has an inverse
-reading_from : Reads → Reading
-reading_from no_charging = NoCharging
-reading_from digital_only = DigitalOnly
-reading_from (current milliamps) = Current (record { 0 = milliamps })
-reading_from (refused number) = AboveScale
+reading_from : Reads → Result Reading AboveScale
+reading_from no_charging = Ok NoCharging
+reading_from digital_only = Ok DigitalOnly
+reading_from (current milliamps) = Ok (Current (record { 0 = milliamps }))
+reading_from (refused number) = Err (record { })
 
-sent_from : Sends → Greatest
-sent_from (duty d) = Duty d
-sent_from (refusal number) = TooLow
+sent_from : Sends → Result ℕ TooLow
+sent_from (duty d) = Ok d
+sent_from (refusal number) = Err (record { })
 
-reading_back : (r : Reading) → reading_from (as_reads r) ≡ r
+reading_back : (r : Result Reading AboveScale) → reading_from (as_reads r) ≡ r
 unfolding reading_from
-reading_back NoCharging = refl
-reading_back DigitalOnly = refl
-reading_back (Current milliamps) = refl
-reading_back AboveScale = refl
+reading_back (Ok NoCharging) = refl
+reading_back (Ok DigitalOnly) = refl
+reading_back (Ok (Current milliamps)) = refl
+reading_back (Err above) = refl
 
-sent_back : (r : Greatest) → sent_from (as_sends r) ≡ r
+sent_back : (r : Result ℕ TooLow) → sent_from (as_sends r) ≡ r
 unfolding sent_from
-sent_back (Duty d) = refl
-sent_back TooLow = refl
+sent_back (Ok d) = refl
+sent_back (Err low) = refl
 
-pub reads_fixes : (r s : Reading) → as_reads r ≡ as_reads s → r ≡ s
+pub reads_fixes : (r s : Result Reading AboveScale) → as_reads r ≡ as_reads s → r ≡ s
 reads_fixes r s e = sym (reading_back r) ∙ ap reading_from e ∙ reading_back s
 
-pub sends_fixes : (r s : Greatest) → as_sends r ≡ as_sends s → r ≡ s
+pub sends_fixes : (r s : Result ℕ TooLow) → as_sends r ≡ as_sends s → r ≡ s
 sends_fixes r s e = sym (sent_back r) ∙ ap sent_from e ∙ sent_back s

@@ -4,14 +4,14 @@ ghost use Rattle.rules.specs.Refusals.{grant_allowed};
 ghost use Rattle.rules.specs.Step3Wave.{low_grant};
 ghost use Rattle.rules.specs.Step5Closing.{has_grant};
 
-use units::{Milliamps, conditions};
+use units::Milliamps;
 
 // The range of a grant.
 #[tactic(auto, unfolding(rules::specs::Refusals::grant_allowed))]
 pub fn grant_allowed(granted: Milliamps) -> bool
     ensures { result ≡ grant_allowed granted.0 }
 {
-    granted.0 <= 80000
+    granted <= Milliamps(80000)
 }
 
 // A digital post closes with at least 6,000.
@@ -19,8 +19,7 @@ pub fn grant_allowed(granted: Milliamps) -> bool
 pub fn has_grant(digital: bool, grant: Milliamps) -> bool
     ensures { result ≡ has_grant digital grant.0 }
 {
-    let enough = grant.at_least(Milliamps(6000));
-    conditions::either(!digital, enough)
+    !digital || Milliamps(6000) <= grant
 }
 
 // Closed with less, it stops its van.
@@ -28,6 +27,5 @@ pub fn has_grant(digital: bool, grant: Milliamps) -> bool
 pub fn low_grant(digital: bool, closed: bool, grant: Milliamps) -> bool
     ensures { result ≡ low_grant digital closed grant.0 }
 {
-    let low = grant.below(Milliamps(6000));
-    conditions::all(digital, closed, low)
+    digital && closed && grant < Milliamps(6000)
 }

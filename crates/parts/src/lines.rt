@@ -3,10 +3,10 @@ ghost use Rattle.std.specs.Prelude.{◌≡◌, cond};
 ghost use Rattle.rules.specs.Lines.{no_currents, largest, line_allowed, lines_allowed};
 ghost use Rattle.parts.specs.Views.{as_lines};
 
-use units::{Milliamps, conditions};
+use units::Milliamps;
 
 #[repr(C)]
-#[derive(Clone, Copy)]
+#[derive(Clone, Copy, PartialEq, Eq)]
 pub struct Lines {
     pub line1: Milliamps,
     pub line2: Milliamps,
@@ -18,27 +18,18 @@ pub struct Lines {
 fn line_allowed(current: Milliamps) -> bool
     ensures { result ≡ line_allowed current.0 }
 {
-    current.0 <= 200000
-}
-
-// Of two currents: the first if told so, else the second.
-pub fn pick_current(first: bool, a: Milliamps, b: Milliamps) -> Milliamps
-    ensures { result.0 ≡ cond first a.0 b.0 }
-{
-    if first { a } else { b }
+    current <= Milliamps(200000)
 }
 
 // The first if told so, else the second: line by line (DECISIONS, 40).
+#[tactic(auto, using(crate::proofs::Chosen::lines_chosen))]
 pub fn pick(first: bool, a: Lines, b: Lines) -> Lines
     ensures { as_lines result ≡ cond first (as_lines a) (as_lines b) }
 {
-    let line1 = Milliamps::pick(first, a.line1, b.line1);
-    let line2 = Milliamps::pick(first, a.line2, b.line2);
-    let line3 = Milliamps::pick(first, a.line3, b.line3);
     Lines {
-        line1: line1,
-        line2: line2,
-        line3: line3,
+        line1: units::pick(first, a.line1, b.line1),
+        line2: units::pick(first, a.line2, b.line2),
+        line3: units::pick(first, a.line3, b.line3),
     }
 }
 
@@ -59,8 +50,7 @@ impl Lines {
     pub fn largest(self) -> Milliamps
         ensures { result.0 ≡ largest (as_lines self) }
     {
-        let of_two = self.line2.greater(self.line3);
-        self.line1.greater(of_two)
+        self.line1.max(self.line2.max(self.line3))
     }
 
     // None of them is above the range.
@@ -68,9 +58,6 @@ impl Lines {
     pub fn allowed(self) -> bool
         ensures { result ≡ lines_allowed (as_lines self) }
     {
-        let one = line_allowed(self.line1);
-        let two = line_allowed(self.line2);
-        let three = line_allowed(self.line3);
-        conditions::all(one, two, three)
+        line_allowed(self.line1) && line_allowed(self.line2) && line_allowed(self.line3)
     }
 }

@@ -6,18 +6,17 @@ ghost use Rattle.rules.specs.Pairs.{paired, same_band, in_one_band, both_proven,
 ghost use Rattle.parts.specs.Views.{as_previous, as_pair};
 
 use pilot::verdicts::Verdict;
-use units::conditions;
 
 // The previous sample with its verdict, or none.
 #[repr(C)]
-#[derive(Clone, Copy)]
+#[derive(Clone, Copy, PartialEq, Eq)]
 pub struct Previous {
     pub kept: bool,
     pub verdict: Verdict,
 }
 
 // A call's own verdict, and the previous sample as the call finds it.
-#[derive(Clone, Copy)]
+#[derive(Clone, Copy, PartialEq, Eq)]
 pub struct Pair {
     pub sampled: bool,
     pub this: Verdict,
@@ -40,10 +39,9 @@ pub fn no_verdict() -> Verdict
 pub fn forgotten() -> Previous
     ensures { as_previous result ≡ forgotten }
 {
-    let verdict = no_verdict();
     Previous {
         kept: false,
-        verdict: verdict,
+        verdict: no_verdict(),
     }
 }
 
@@ -53,15 +51,8 @@ pub fn kept_sample(verdict: Verdict) -> Previous
 {
     Previous {
         kept: true,
-        verdict: verdict,
+        verdict,
     }
-}
-
-// Of two letters or bands: the first if told so, else the second.
-pub fn pick_letter(first: bool, a: u8, b: u8) -> u8
-    ensures { result ≡ cond first a b }
-{
-    if first { a } else { b }
 }
 
 // The first if told so, else the second: field by field, which the compiler makes faster code of than of a struct chosen whole
@@ -69,20 +60,15 @@ pub fn pick_letter(first: bool, a: u8, b: u8) -> u8
 pub fn pick(first: bool, a: Previous, b: Previous) -> Previous
     ensures { as_previous result ≡ cond first (as_previous a) (as_previous b) }
 {
-    let kept = conditions::pick(first, a.kept, b.kept);
-    let band = pick_letter(first, a.verdict.band, b.verdict.band);
-    let sound = conditions::pick(first, a.verdict.sound, b.verdict.sound);
-    let proven = conditions::pick(first, a.verdict.proven, b.verdict.proven);
-    let diodebad = conditions::pick(first, a.verdict.diodebad, b.verdict.diodebad);
-    let verdict = Verdict {
-        band: band,
-        sound: sound,
-        proven: proven,
-        diodebad: diodebad,
-    };
+    let (this, that) = (a.verdict, b.verdict);
     Previous {
-        kept: kept,
-        verdict: verdict,
+        kept: units::pick(first, a.kept, b.kept),
+        verdict: Verdict {
+            band: units::pick(first, this.band, that.band),
+            sound: units::pick(first, this.sound, that.sound),
+            proven: units::pick(first, this.proven, that.proven),
+            diodebad: units::pick(first, this.diodebad, that.diodebad),
+        },
     }
 }
 
@@ -91,9 +77,7 @@ pub fn pick(first: bool, a: Previous, b: Previous) -> Previous
 fn same_band(a: u8, b: u8) -> bool
     ensures { result ≡ same_band a b }
 {
-    let none = a == 0;
-    let same = a == b;
-    conditions::both(!none, same)
+    a != 0 && a == b
 }
 
 impl Pair {
@@ -102,16 +86,14 @@ impl Pair {
     fn paired(self) -> bool
         ensures { result ≡ paired (as_pair self) }
     {
-        conditions::both(self.sampled, self.previous.kept)
+        self.sampled && self.previous.kept
     }
 
     #[tactic(auto, unfolding(rules::specs::Pairs::in_one_band))]
     pub fn in_one_band(self) -> bool
         ensures { result ≡ in_one_band (as_pair self) }
     {
-        let paired = self.paired();
-        let same = same_band(self.previous.verdict.band, self.this.band);
-        conditions::both(paired, same)
+        self.paired() && same_band(self.previous.verdict.band, self.this.band)
     }
 
     // Both proven in the same band.
@@ -119,24 +101,21 @@ impl Pair {
     pub fn both_proven(self) -> bool
         ensures { result ≡ both_proven (as_pair self) }
     {
-        let in_one = self.in_one_band();
-        conditions::all(in_one, self.previous.verdict.proven, self.this.proven)
+        self.in_one_band() && self.previous.verdict.proven && self.this.proven
     }
 
     #[tactic(auto, unfolding(rules::specs::Pairs::both_diode_bad))]
     pub fn both_diode_bad(self) -> bool
         ensures { result ≡ both_diode_bad (as_pair self) }
     {
-        let paired = self.paired();
-        conditions::all(paired, self.previous.verdict.diodebad, self.this.diodebad)
+        self.paired() && self.previous.verdict.diodebad && self.this.diodebad
     }
 
     #[tactic(auto, unfolding(rules::specs::Pairs::both_unsound))]
     pub fn both_unsound(self) -> bool
         ensures { result ≡ both_unsound (as_pair self) }
     {
-        let paired = self.paired();
-        conditions::only(paired, self.previous.verdict.sound, self.this.sound)
+        self.paired() && !self.previous.verdict.sound && !self.this.sound
     }
 }
 
@@ -145,7 +124,5 @@ impl Pair {
 pub fn is_settled(settled: u8) -> bool
     ensures { result ≡ is_settled settled }
 {
-    let not_below = b'A' <= settled;
-    let not_above = settled <= b'E';
-    conditions::both(not_below, not_above)
+    (b'A'..=b'E').contains(&settled)
 }

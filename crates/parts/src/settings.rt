@@ -3,11 +3,11 @@ ghost use Rattle.std.specs.Prelude.{◌≡◌, eqb};
 ghost use Rattle.rules.specs.Begin.{rated_allowed, pause_allowed, pause_for, in_force};
 ghost use Rattle.parts.specs.Views.{as_settings};
 
-use units::{Milliamps, Millis};
+use units::{Milliamps, Millis, Quantity};
 
 // The pause stands first, so that these take 16 bytes (DECISIONS, 80).
 #[repr(C)]
-#[derive(Clone, Copy)]
+#[derive(Clone, Copy, PartialEq, Eq)]
 pub struct Settings {
     // In a controller, as it is in force; as given to begin, 0 asks for 10,000.
     pub pause: Millis,
@@ -17,7 +17,7 @@ pub struct Settings {
     pub digital: bool,
 }
 
-#[tactic(auto, unfolding(rules::specs::Begin::rated_allowed))]
+#[tactic(auto, unfolding(rules::specs::Begin::rated_allowed, units::specs::Range::from_to))]
 pub fn rated_allowed(rated: Milliamps) -> bool
     ensures { result ≡ rated_allowed rated.0 }
 {
@@ -25,7 +25,7 @@ pub fn rated_allowed(rated: Milliamps) -> bool
 }
 
 // The range of a pause in force.
-#[tactic(auto, unfolding(rules::specs::Begin::pause_allowed))]
+#[tactic(auto, unfolding(rules::specs::Begin::pause_allowed, units::specs::Range::from_to))]
 pub fn pause_allowed(pause: Millis) -> bool
     ensures { result ≡ pause_allowed pause.0 }
 {
@@ -36,7 +36,7 @@ pub fn pause_allowed(pause: Millis) -> bool
 pub fn asks_default(pause: Millis) -> bool
     ensures { result ≡ eqb pause.0 0 }
 {
-    pause.0 == 0
+    pause == Millis(0)
 }
 
 // The pause in force: 0 means 10,000.
@@ -44,20 +44,15 @@ pub fn asks_default(pause: Millis) -> bool
 fn pause_for(pause: Millis) -> Millis
     ensures { result.0 ≡ pause_for pause.0 }
 {
-    let default = asks_default(pause);
-    Millis::pick(default, Millis(10000), pause)
+    if asks_default(pause) { Millis(10000) } else { pause }
 }
 
 // The settings with the pause in force.
 pub fn in_force(given: Settings) -> Settings
     ensures { as_settings result ≡ in_force (as_settings given) }
 {
-    let rated = given.rated;
-    let pause = pause_for(given.pause);
     Settings {
-        rated: rated,
-        pause: pause,
-        ventilation: given.ventilation,
-        digital: given.digital,
+        pause: pause_for(given.pause),
+        ..given
     }
 }

@@ -1,33 +1,15 @@
 // Bands of levels: which band a high level is in, and what the bands tell of the van.
-ghost use Rattle.std.specs.Prelude.{◌≡◌, cond};
-ghost use Rattle.pilot.specs.Bands.{band_a, band_b, band_c, band_d, band_e, no_band, in_low_band, band_of, ready, is_bcd};
+ghost use Rattle.std.specs.Prelude.{◌≡◌};
+ghost use Rattle.pilot.specs.Bands.{in_low_band, band_of, ready, is_bcd};
 
-use units::Millivolts;
+use units::{Millivolts, Quantity};
 
 // The low level of a driven wave, where the van has a sound diode.
+#[tactic(auto, unfolding(units::specs::Range::within))]
 pub fn in_low_band(level: Millivolts) -> bool
     ensures { result ≡ in_low_band level.0 }
 {
     level.within(Millivolts(-13000), Millivolts(-11000))
-}
-
-// The letter of the first test that holds, or none.
-fn letter(a: bool, b: bool, c: bool, d: bool, e: bool) -> u8
-    ensures { result ≡ cond a band_a (cond b band_b (cond c band_c (cond d band_d (cond e band_e no_band)))) }
-{
-    if a {
-        b'A'
-    } else if b {
-        b'B'
-    } else if c {
-        b'C'
-    } else if d {
-        b'D'
-    } else if e {
-        b'E'
-    } else {
-        0
-    }
 }
 
 // The band of a high level, as a letter in ASCII, or 0 for none.
@@ -35,12 +17,14 @@ fn letter(a: bool, b: bool, c: bool, d: bool, e: bool) -> u8
 pub fn band(high: Millivolts) -> u8
     ensures { result ≡ band_of high.0 }
 {
-    let a = high.within(Millivolts(11000), Millivolts(13000));
-    let b = high.within(Millivolts(8000), Millivolts(10000));
-    let c = high.within(Millivolts(5000), Millivolts(7000));
-    let d = high.within(Millivolts(2000), Millivolts(4000));
-    let e = high.within(Millivolts(-1000), Millivolts(1000));
-    letter(a, b, c, d, e)
+    match high.0 {
+        11000..=13000 => b'A',
+        8000..=10000 => b'B',
+        5000..=7000 => b'C',
+        2000..=4000 => b'D',
+        -1000..=1000 => b'E',
+        _ => 0,
+    }
 }
 
 // A van in this band is ready to charge.
@@ -60,10 +44,5 @@ pub fn ready(band: u8, ventilation: bool) -> bool
 pub fn is_b_c_or_d(band: u8) -> bool
     ensures { result ≡ is_bcd band }
 {
-    match band {
-        b'B' => true,
-        b'C' => true,
-        b'D' => true,
-        _ => false,
-    }
+    matches!(band, b'B' | b'C' | b'D')
 }

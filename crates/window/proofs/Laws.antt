@@ -10,15 +10,17 @@ use lib.Dec.{eqb}
 use lib.IntN.{ℤ}
 use lib.ListN.{length}
 use lib.Signed.{le_z}
+use Rattle.std.specs.Prelude.{Result, Ok, Err}
 use Rattle.units.specs.Range.{higher, lower}
+use Rattle.units.specs.declared.Levels.{Levels}
 use Rattle.units.proofs.FromTo.{outside_exactly}
 use Rattle.units.proofs.LevelOrder.{le_itself, le_through, higher_bounds, lower_bounds, higher_one, lower_one}
 use Rattle.units.proofs.Booleans.{both_ways}
 use Rattle.window.specs.Support.{supported}
 use Rattle.window.specs.Evaluation.{Evaluation, levels, refused, length_allowed, all_allowed, select, extreme, greatest, least, levels_of, supported_levels, evaluate}
 use Rattle.window.specs.Numbers.{as_evaluation}
-use Rattle.window.specs.declared.Evaluated.{Evaluated}
-use Rattle.window.specs.declared.Evaluated.TheVariants.{Levels, WrongLength, OutOfRange, Unsupported}
+use Rattle.window.specs.declared.Refused.{Refused}
+use Rattle.window.specs.declared.Refused.TheVariants.{Length, Range, Support}
 use Rattle.window.specs.Laws.{LevelsOf, OneOutOfRange, NoneSupported, RefusedFor}
 use Rattle.window.proofs.Extremes.{selected, is_selected, extreme_member, extreme_bounds}
 use Rattle.window.proofs.Refusals.{all_right, one_wrong, wrong_length, out_of_range, evaluated}
@@ -156,16 +158,16 @@ module _ (window : List ℤ) where
       back (inr (inr (is, n))) = six_by n ∙ ap refused (sym is)
 
 -- an answer's meaning fixes the answer: the map has an inverse
-evaluated_from : Evaluation → Evaluated
-evaluated_from (levels high low) = Levels (record { 0 = high }) (record { 0 = low })
-evaluated_from (refused number) = cond (eqb number 4) WrongLength (cond (eqb number 5) OutOfRange Unsupported)
+evaluated_from : Evaluation → Result Levels Refused
+evaluated_from (levels high low) = Ok (record { high = record { 0 = high }; low = record { 0 = low } })
+evaluated_from (refused number) = Err (cond (eqb number 4) Length (cond (eqb number 5) Range Support))
 
-evaluated_back : (r : Evaluated) → evaluated_from (as_evaluation r) ≡ r
+evaluated_back : (r : Result Levels Refused) → evaluated_from (as_evaluation r) ≡ r
 unfolding evaluated_from
-evaluated_back (Levels high low) = refl
-evaluated_back WrongLength = refl
-evaluated_back OutOfRange = refl
-evaluated_back Unsupported = refl
+evaluated_back (Ok both) = refl
+evaluated_back (Err Length) = refl
+evaluated_back (Err Range) = refl
+evaluated_back (Err Support) = refl
 
-pub evaluation_fixes : (r s : Evaluated) → as_evaluation r ≡ as_evaluation s → r ≡ s
+pub evaluation_fixes : (r s : Result Levels Refused) → as_evaluation r ≡ as_evaluation s → r ≡ s
 evaluation_fixes r s e = sym (evaluated_back r) ∙ ap evaluated_from e ∙ evaluated_back s

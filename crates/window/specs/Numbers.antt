@@ -1,18 +1,18 @@
 -- For each case of the answer, document 01's number and values.
+use Rattle.std.specs.Prelude.{Option, Some, None, Result, Ok, Err}
+use Rattle.units.specs.declared.Levels.{Levels}
 use Rattle.window.specs.Evaluation.{Evaluation, levels, refused}
-use Rattle.window.specs.declared.Evaluated.{Evaluated}
-use Rattle.window.specs.declared.Evaluated.TheVariants.{Levels, WrongLength, OutOfRange, Unsupported}
-use Rattle.window.specs.declared.search.Found.{Found}
-use Rattle.window.specs.declared.search.Found.TheVariants.{Nothing, Levels as FoundLevels}
+use Rattle.window.specs.declared.Refused.{Refused}
+use Rattle.window.specs.declared.Refused.TheVariants.{Length, Range, Support}
 
 -- the high and the low level of a window; refusals 4, 5 and 6
-abbrev pub as_evaluation : Evaluated → Evaluation
-as_evaluation (Levels high low) = levels high.0 low.0
-as_evaluation WrongLength = refused 4
-as_evaluation OutOfRange = refused 5
-as_evaluation Unsupported = refused 6
+abbrev pub as_evaluation : Result Levels Refused → Evaluation
+as_evaluation (Ok found) = levels found.high.0 found.low.0
+as_evaluation (Err Length) = refused 4
+as_evaluation (Err Range) = refused 5
+as_evaluation (Err Support) = refused 6
 
 -- the same for the levels found so far
-abbrev pub as_found : Found → Evaluation
-as_found Nothing = refused 6
-as_found (FoundLevels high low) = levels high.0 low.0
+abbrev pub as_found : Option Levels → Evaluation
+as_found None = refused 6
+as_found (Some found) = levels found.high.0 found.low.0

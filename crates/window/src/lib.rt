@@ -1,8 +1,8 @@
 #![tactic(auto)]
 // A window of readings to the high and the low level. A level needs support: one stray reading makes none.
-use units::Millivolts;
+use units::Levels;
 
-mod readings; // readings.rt: the readings of a window and their range
+mod readings; // readings.rt: the range of the readings
 mod search; // search.rt: the levels of the supported readings
 mod support; // support.rt: when a reading supports another, and how many must
 
@@ -10,33 +10,27 @@ ghost use Rattle.std.specs.Prelude.{◌≡◌};
 ghost use Rattle.window.specs.Evaluation.{evaluate};
 ghost use Rattle.window.specs.Numbers.{as_evaluation};
 
-// What a window tells.
-#[derive(Clone, Copy)]
-pub enum Evaluated {
-    Levels { high: Millivolts, low: Millivolts },
+// What a window is refused for.
+#[derive(Clone, Copy, PartialEq, Eq)]
+pub enum Refused {
     // Refusal 4: not 256 to 1,024 readings.
-    WrongLength,
+    Length,
     // Refusal 5: a reading outside -15,000 to 15,000 mV.
-    OutOfRange,
+    Range,
     // Refusal 6: no reading has the support that it needs.
-    Unsupported,
+    Support,
 }
 
 // The high and the low level of a window, or the refusal of it.
-pub fn evaluate(window: &[i32]) -> Evaluated
+#[tactic(auto, unfolding(crate::specs::Evaluation::evaluate, crate::specs::Evaluation::length_allowed, units::specs::Range::from_to))]
+pub fn evaluate(window: &[i32]) -> Result<Levels, Refused>
     ensures { as_evaluation result ≡ evaluate window.now }
 {
-    let n = window.len();
-    if n < 256 {
-        return Evaluated::WrongLength;
+    if !(256..=1024).contains(&window.len()) {
+        return Err(Refused::Length);
     }
-    if 1024 < n {
-        return Evaluated::WrongLength;
+    if !readings::all_allowed(window) {
+        return Err(Refused::Range);
     }
-    let ok = readings::all_allowed(window);
-    if ok {
-        search::levels(window)
-    } else {
-        Evaluated::OutOfRange
-    }
+    search::levels(window).ok_or(Refused::Support)
 }

@@ -1,10 +1,9 @@
-// The readings of a window and their range.
+// interim
 ghost use Rattle.std.specs.Prelude.{◌≡◌, pos, get_or};
 ghost use Rattle.window.specs.Evaluation.{reading_allowed, all_allowed};
 
-use units::Millivolts;
+use units::{Millivolts, Quantity};
 
-// The reading at an index, and 0 past the end, where no caller asks (DECISIONS, 9).
 pub fn reading(window: &[i32], index: usize) -> Millivolts
     ensures { result.0 ≡ get_or window.now index (pos 0) }
 {
@@ -15,14 +14,13 @@ pub fn reading(window: &[i32], index: usize) -> Millivolts
     }
 }
 
-// A reading is -15,000 to 15,000 mV.
+#[tactic(auto, unfolding(units::specs::Range::within))]
 fn allowed(reading: Millivolts) -> bool
     ensures { result ≡ reading_allowed reading.0 }
 {
     reading.within(Millivolts(-15000), Millivolts(15000))
 }
 
-// Every reading of the window is -15,000 to 15,000 mV.
 pub fn all_allowed(window: &[i32]) -> bool
     ensures { result ≡ all_allowed window.now }
 {

@@ -1,31 +1,15 @@
 // Support of a reading: the readings near it, and how many it needs.
-ghost use Rattle.std.specs.Prelude.{◌≡◌, leb, ◌-ℤ◌, nat_abs};
+ghost use Rattle.std.specs.Prelude.{◌≡◌};
 ghost use Rattle.window.specs.Support.{near, needed};
 
 use units::Millivolts;
-
-// No difference of two readings overflows 64 bits (DECISIONS, 49).
-fn difference(a: Millivolts, b: Millivolts) -> i64
-    ensures { result ≡ a.0 -ℤ b.0 }
-{
-    (a.0 as i64) - (b.0 as i64)
-}
-
-fn at_most_200(difference: i64) -> bool
-    ensures { result ≡ leb (nat_abs difference) 200 }
-{
-    if difference < -200 {
-        return false;
-    }
-    difference <= 200
-}
 
 // Two readings differ by at most 200 mV.
 #[tactic(auto, unfolding(crate::specs::Support::near))]
 pub fn near(a: Millivolts, b: Millivolts) -> bool
     ensures { result ≡ near a.0 b.0 }
 {
-    at_most_200(difference(a, b))
+    a.0.abs_diff(b.0) <= 200
 }
 
 // How many supporters a reading needs in a window of n readings (DECISIONS, 8).
@@ -35,3 +19,4 @@ pub fn needed(n: usize) -> usize
 {
     8
 }
+

@@ -6,7 +6,8 @@ use Rattle.window.specs.Support.{supported, needed}
 use Rattle.window.specs.Evaluation.{Evaluation}
 use Rattle.window.specs.Search.{widen, gather}
 use Rattle.window.specs.Numbers.{as_found}
-use Rattle.window.specs.declared.search.Found.{Found}
+use Rattle.std.specs.Prelude.{Option}
+use Rattle.units.specs.declared.Levels.{Levels}
 use Rattle.window.proofs.Turns.{done}
 use Rattle.window.proofs.Counting.{some_needed, close_next, apart_next, enough, too_few}
 use Rattle.window.proofs.Gathering.{whole, gather_none, gather_passed, gather_failed, gather_kept, inside_keeps}
@@ -62,12 +63,12 @@ loop-i-preserved c =
       elim c.count-test.branch [
         | else-count-test w ↦
             (let fails = too_few window x c.count.count c.count.j c.count.invariant.3 c.needed-wanted.result c.needed-wanted.ensures w.count-test.false c.count.invariant.2 in
-            ap (λ (f : Found). gather test (as_found f) rest) (w.found-is ∙ c.count.invariant.1)
+            ap (λ (f : Option Levels). gather test (as_found f) rest) (w.found-is ∙ c.count.invariant.1)
             ∙ gather_failed test (as_found c.loop-i.found) window c.loop-i.i x c.reading-level.ensures more fails ∙ c.loop-i.invariant.1)
         | then-count-test+then-close+then-wanted-count w ↦
             (let passes = enough window x c.count.count c.count.j c.count.invariant.3 w.reading.result.0 w.reading.ensures w.count-test.true c.needed-wanted.result c.needed-wanted.ensures (sym w.near-close.ensures ∙ w.if-close.true) w.if-wanted-count.true in
-            ap (λ (f : Found). gather test (as_found f) rest) w.found-is
-            ∙ ap (λ (f : Evaluation). gather test f rest) (w.widened-found.ensures ∙ ap (λ (f : Found). widen (as_found f) x) c.count.invariant.1)
+            ap (λ (f : Option Levels). gather test (as_found f) rest) w.found-is
+            ∙ ap (λ (f : Evaluation). gather test f rest) (w.widened.ensures ∙ ap (λ (f : Option Levels). widen (as_found f) x) c.count.invariant.1)
             ∙ gather_passed test (as_found c.loop-i.found) window c.loop-i.i x c.reading-level.ensures more passes ∙ c.loop-i.invariant.1)
       ],
     )
@@ -75,4 +76,4 @@ loop-i-preserved c =
 pub returns : goal.returns
 returns c =
     let empty = done c.args.window.now c.loop-i.i c.loop-i-test.false in
-    c.answer.ensures ∙ (rw (empty, gather_none) at c.loop-i.invariant.1)
+    rw (empty, gather_none) at c.loop-i.invariant.1
