@@ -1,0 +1,2 @@
+-- The refusals in the terms of crate rules.
+pub mod Numbers
