@@ -19,7 +19,7 @@ mod steps; // steps.rt: the steps of an accepted call
 // What the host keeps, and lends to each call. In this order it takes 128 bytes, up to which it is copied without a call of memcpy
 // (DECISIONS, 80 and 94).
 #[repr(C)]
-#[derive(Clone, Copy)]
+#[derive(Clone, Copy, PartialEq, Eq)]
 pub struct Controller {
     pub settings: Settings,
     // The depot's limit.
@@ -52,26 +52,23 @@ pub struct Controller {
 pub fn blank(settings: Settings, wave: u32, last: Millis) -> Controller
     ensures { view result ≡ blank (as_settings settings) wave last.0 }
 {
-    let faults = Faults::none();
     let empty = Moment::empty();
-    let previous = samples::forgotten();
-    let lines = Lines::none();
     Controller {
-        settings: settings,
+        settings,
         limit: Milliamps(0),
         grant: Milliamps(0),
-        wave: wave,
+        wave,
         closed: false,
         settled: 0,
-        faults: faults,
-        previous: previous,
-        last: last,
+        faults: Faults::none(),
+        previous: samples::forgotten(),
+        last,
         sound: empty,
         opening: empty,
         overrun: empty,
         stop: empty,
         closings: 0,
-        lines: lines,
+        lines: Lines::none(),
     }
 }
 

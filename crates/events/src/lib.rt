@@ -40,6 +40,13 @@ pub enum Event {
     Tick,
 }
 
+// A call: its time, kind and arguments.
+#[derive(Clone, Copy, PartialEq, Eq)]
+pub struct Call {
+    pub time: Millis,
+    pub event: Event,
+}
+
 pub fn is_sample(event: Event) -> bool
     ensures { result ≡ is_sample (as_event event) }
 {
