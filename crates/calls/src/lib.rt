@@ -1,11 +1,15 @@
 #![tactic(auto)]
 // The calls by value: each takes the controller, and hands back the next one with the reply.
+ghost use Rattle.std.specs.Prelude.{◌≡◌};
+ghost use Rattle.rules.specs.Answer.{answer_to};
 ghost use Rattle.rules.specs.Calls.{sample, limit, measure, link, fault, clear, tick};
 ghost use Rattle.rules.specs.Lines.{on_line1};
-ghost use Rattle.calls.specs.Answers.{Answers, Begins};
+ghost use Rattle.events.specs.Views.{as_event};
+ghost use Rattle.controller.specs.View.{view};
+ghost use Rattle.calls.specs.Answers.{handed_back, Answers, Begins};
 
 use controller::Controller;
-use events::Event;
+use events::{Call, Event};
 use parts::lines::Lines;
 use parts::replies::Reply;
 use parts::settings::Settings;
@@ -18,10 +22,17 @@ mod shown; // shown.rt: the reply
 
 // What a call hands back: the controller after it, and the reply.
 #[repr(C)]
-#[derive(Clone, Copy)]
+#[derive(Clone, Copy, PartialEq, Eq)]
 pub struct Answer {
     pub controller: Controller,
     pub reply: Reply,
+}
+
+fn taken(c: Controller, time: u64, event: Event) -> Answer
+    ensures { handed_back result.reply result.controller ≡ answer_to (view c) (record { time = time; event = as_event event }) }
+{
+    let time = Millis(time);
+    answered::answer(c, Call { time, event })
 }
 
 // Starts afresh with these settings; a pause of 0 stands for 10,000 ms. Refused, it hands back the lent controller, and a reply with
@@ -39,8 +50,8 @@ pub fn begin(
     let given = Settings {
         rated: Milliamps(rated),
         pause: Millis(pause),
-        ventilation: ventilation,
-        digital: digital,
+        ventilation,
+        digital,
     };
     begun::begin_with(c, Millis(time), given)
 }
@@ -50,8 +61,7 @@ pub fn begin(
 pub fn sample(c: Controller, time: u64, window: &[i32]) -> Answer
     ensures { Answers (record { time = time; event = sample window.now }) c result.reply result.controller }
 {
-    let evaluated = window::evaluate(window);
-    answered::answer(c, Millis(time), Event::Sample(evaluated))
+    taken(c, time, Event::Sample(window::evaluate(window)))
 }
 
 // The depot's limit, in milliamps.
@@ -59,7 +69,7 @@ pub fn sample(c: Controller, time: u64, window: &[i32]) -> Answer
 pub fn limit(c: Controller, time: u64, current: u32) -> Answer
     ensures { Answers (record { time = time; event = limit current }) c result.reply result.controller }
 {
-    answered::answer(c, Millis(time), Event::Limit(Milliamps(current)))
+    taken(c, time, Event::Limit(Milliamps(current)))
 }
 
 // The current on each line, in milliamps.
@@ -72,7 +82,7 @@ pub fn measure_lines(c: Controller, time: u64, line1: u32, line2: u32, line3: u3
         line2: Milliamps(line2),
         line3: Milliamps(line3),
     };
-    answered::answer(c, Millis(time), Event::Measure(lines))
+    taken(c, time, Event::Measure(lines))
 }
 
 // One current, in milliamps: on line 1, and 0 on the others.
@@ -87,7 +97,7 @@ pub fn measure(c: Controller, time: u64, current: u32) -> Answer
 pub fn link(c: Controller, time: u64, granted: u32) -> Answer
     ensures { Answers (record { time = time; event = link granted }) c result.reply result.controller }
 {
-    answered::answer(c, Millis(time), Event::Link(Milliamps(granted)))
+    taken(c, time, Event::Link(Milliamps(granted)))
 }
 
 // A fault from outside: 3 residual current, 4 welded contact, 5 over-temperature.
@@ -95,7 +105,7 @@ pub fn link(c: Controller, time: u64, granted: u32) -> Answer
 pub fn fault(c: Controller, time: u64, kind: u32) -> Answer
     ensures { Answers (record { time = time; event = fault kind }) c result.reply result.controller }
 {
-    answered::answer(c, Millis(time), Event::Fault(kind))
+    taken(c, time, Event::Fault(kind))
 }
 
 // The faults are over.
@@ -103,7 +113,7 @@ pub fn fault(c: Controller, time: u64, kind: u32) -> Answer
 pub fn clear(c: Controller, time: u64) -> Answer
     ensures { Answers (record { time = time; event = clear }) c result.reply result.controller }
 {
-    answered::answer(c, Millis(time), Event::Clear)
+    taken(c, time, Event::Clear)
 }
 
 // Nothing but the time.
@@ -111,5 +121,5 @@ pub fn clear(c: Controller, time: u64) -> Answer
 pub fn tick(c: Controller, time: u64) -> Answer
     ensures { Answers (record { time = time; event = tick }) c result.reply result.controller }
 {
-    answered::answer(c, Millis(time), Event::Tick)
+    taken(c, time, Event::Tick)
 }

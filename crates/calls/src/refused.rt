@@ -1,39 +1,35 @@
 // What a call is refused for when it is lent this controller.
 ghost use Rattle.std.specs.Prelude.{◌≡◌};
 ghost use Rattle.rules.specs.Altered.{times_allowed, in_range, altered, lent_refusal};
-ghost use Rattle.controller.specs.View.{state_of, view, evaluated_at};
+ghost use Rattle.controller.specs.View.{state_of, view, as_call};
+ghost use Rattle.refusals.specs.Numbers.{refusal_number};
 
 use controller::Controller;
-use events::Event;
+use events::Call;
 use parts::{grants, settings};
-use units::{Millis, conditions};
+use refusals::Refusal;
 
 // No stored time is above the last accepted one.
 #[tactic(auto, unfolding(rules::specs::Altered::times_allowed))]
 fn times_allowed(c: Controller) -> bool
     ensures { result ≡ times_allowed (state_of c) }
 {
-    let sound = c.sound.stored_allowed(c.last);
-    let opening = c.opening.stored_allowed(c.last);
-    let overrun = c.overrun.stored_allowed(c.last);
-    let stop = c.stop.stored_allowed(c.last);
-    let starts = conditions::both(overrun, stop);
-    conditions::all(sound, opening, starts)
+    c.sound.stored_allowed(c.last)
+        && c.opening.stored_allowed(c.last)
+        && c.overrun.stored_allowed(c.last)
+        && c.stop.stored_allowed(c.last)
 }
 
 #[tactic(auto, unfolding(rules::specs::Altered::in_range))]
 fn in_range(c: Controller) -> bool
     ensures { result ≡ in_range (state_of c) }
 {
-    let wave = refusals::wave_allowed(c.settings.digital, c.wave);
-    let limit = refusals::limit_allowed(c.limit);
-    let grant = grants::grant_allowed(c.grant);
-    let rated = settings::rated_allowed(c.settings.rated);
-    let pause = settings::pause_allowed(c.settings.pause);
-    let times = times_allowed(c);
-    let rest = conditions::all(rated, pause, times);
-    let currents = conditions::both(grant, rest);
-    conditions::all(wave, limit, currents)
+    refusals::wave_allowed(c.settings.digital, c.wave)
+        && refusals::limit_allowed(c.limit)
+        && grants::grant_allowed(c.grant)
+        && settings::rated_allowed(c.settings.rated)
+        && settings::pause_allowed(c.settings.pause)
+        && times_allowed(c)
 }
 
 // The host has altered it: no list of calls leads here.
@@ -41,20 +37,17 @@ fn in_range(c: Controller) -> bool
 pub(crate) fn altered(c: Controller) -> bool
     ensures { result ≡ altered (view c) }
 {
-    let ranges = in_range(c);
-    let few = refusals::count_allowed(c.closings);
-    let whole = conditions::both(ranges, few);
-    !whole
+    !(in_range(c) && refusals::count_allowed(c.closings))
 }
 
-// 3, then 2, then 1, then those for the arguments; 0 if the call is accepted.
-pub(crate) fn refusal(c: Controller, time: Millis, event: Event) -> u8
-    ensures { result ≡ lent_refusal (view c) (evaluated_at time event) }
+// 3, then 2, then 1, then those for the arguments.
+#[tactic(auto, unfolding(rules::specs::Altered::lent_refusal))]
+pub(crate) fn refusal(c: Controller, call: Call) -> Result<(), Refusal>
+    ensures { refusal_number result ≡ lent_refusal (view c) (as_call call) }
 {
-    let by_time = refusals::time_refusal(c.last, time);
-    let altered = altered(c);
-    let one = refusals::number_if(altered, 1);
-    let by_argument = refusals::argument_refusal(c.settings.digital, event);
-    let rest = refusals::or_else(one, by_argument);
-    refusals::or_else(by_time, rest)
+    refusals::time_refusal(c.last, call.time)?;
+    if altered(c) {
+        return Err(Refusal::Settings);
+    }
+    refusals::argument_refusal(c.settings.digital, call.event)
 }

@@ -12,20 +12,15 @@ use parts::replies::Reply;
 pub(crate) fn reply(c: Controller, number: u8) -> Reply
     ensures { as_reply result ≡ shown number (view c) }
 {
-    let lines = c.lines;
-    let faulted = c.faults.any();
-    let letter = replies::letter(faulted, c.settled);
-    let driven = c.is_driven();
-    let digit = replies::digit(letter, driven);
-    let fault = c.faults.first();
+    let letter = replies::letter(c.faults.any(), c.settled);
     Reply {
         refusal: number,
-        letter: letter,
-        digit: digit,
+        letter,
+        digit: replies::digit(letter, c.is_driven()),
         wave: c.wave,
         closed: c.closed,
-        fault: fault,
+        fault: c.faults.first(),
         closings: c.closings,
-        lines: lines,
+        lines: c.lines,
     }
 }
