@@ -5,12 +5,12 @@ ghost use Rattle.duty.specs.DutyFor.{duty_for};
 ghost use Rattle.duty.specs.Numbers.{as_reads, as_sends};
 ghost use Rattle.chuldariin.specs.Duties.{host_reading, host_duty};
 
-use duty::Greatest;
+use duty::{AboveScale, Reading, TooLow};
 use units::Milliamps;
 
 // What a van reads from a duty.
 #[repr(C)]
-#[derive(Clone, Copy)]
+#[derive(Clone, Copy, PartialEq, Eq)]
 pub struct ReadingReply {
     // 0, or refusal 9.
     pub refusal: u8,
@@ -22,7 +22,7 @@ pub struct ReadingReply {
 
 // The greatest duty for an available current.
 #[repr(C)]
-#[derive(Clone, Copy)]
+#[derive(Clone, Copy, PartialEq, Eq)]
 pub struct DutyReply {
     // 0, or refusal 10.
     pub refusal: u8,
@@ -30,42 +30,28 @@ pub struct DutyReply {
     pub duty: u32,
 }
 
-fn host_reading(reading: duty::Reading) -> ReadingReply
+fn host_reading(reading: Result<Reading, AboveScale>) -> ReadingReply
     ensures { result ≡ host_reading (as_reads reading) }
 {
-    match reading {
-        duty::Reading::NoCharging => ReadingReply {
-            refusal: 0,
-            kind: 0,
-            current: 0,
-        },
-        duty::Reading::DigitalOnly => ReadingReply {
-            refusal: 0,
-            kind: 1,
-            current: 0,
-        },
-        duty::Reading::Current(current) => ReadingReply {
-            refusal: 0,
-            kind: 2,
-            current: current.0,
-        },
-        duty::Reading::AboveScale => ReadingReply {
-            refusal: 9,
-            kind: 0,
-            current: 0,
-        },
+    let (refusal, kind, current) = match reading {
+        Ok(Reading::NoCharging) => (0, 0, 0),
+        Ok(Reading::DigitalOnly) => (0, 1, 0),
+        Ok(Reading::Current(current)) => (0, 2, current.0),
+        Err(AboveScale) => (9, 0, 0),
+    };
+    ReadingReply {
+        refusal,
+        kind,
+        current,
     }
 }
 
-fn host_duty(greatest: Greatest) -> DutyReply
+fn host_duty(greatest: Result<u32, TooLow>) -> DutyReply
     ensures { result ≡ host_duty (as_sends greatest) }
 {
     match greatest {
-        Greatest::Duty(duty) => DutyReply {
-            refusal: 0,
-            duty: duty,
-        },
-        Greatest::TooLow => DutyReply {
+        Ok(duty) => DutyReply { refusal: 0, duty },
+        Err(TooLow) => DutyReply {
             refusal: 10,
             duty: 0,
         },
