@@ -16,7 +16,7 @@ use crate::Controller;
 use events::{Bound, Event};
 use parts::moments::Moment;
 use parts::samples::Pair;
-use parts::{counts, grants, moments, samples};
+use parts::{counts, grants, samples};
 use units::{Milliamps, Millis};
 use waves::Change;
 
@@ -109,9 +109,9 @@ impl Controller {
         let unsettles = self.unsettles(call);
         let diode = call.pair.both_diode_bad();
         let over = self.over_current(call.time);
-        let previous = samples::pick(unsettles, samples::forgotten(), self.previous);
+        let previous = if unsettles { samples::forgotten() } else { self.previous };
         Controller {
-            settled: units::pick(unsettles, 0, self.settled),
+            settled: if unsettles { 0 } else { self.settled },
             faults: self.faults.with_latches(diode, over),
             previous,
             ..self
@@ -171,14 +171,15 @@ impl Controller {
     pub(crate) fn opening(self, call: Accepted) -> Controller
         ensures { view result ≡ on_state (step_opening call.time.0 (as_pair call.pair)) (view self) }
     {
-        let opens = self.opens(call);
-        let previous = samples::pick(opens, samples::forgotten(), self.previous);
+        if !self.opens(call) {
+            return self;
+        }
         Controller {
-            closed: self.closed && !opens,
-            opening: moments::pick(opens, Moment::set_to(call.time), self.opening),
-            overrun: moments::pick(opens, Moment::empty(), self.overrun),
-            stop: moments::pick(opens, Moment::empty(), self.stop),
-            previous,
+            closed: false,
+            opening: Moment::set_to(call.time),
+            overrun: Moment::empty(),
+            stop: Moment::empty(),
+            previous: samples::forgotten(),
             ..self
         }
     }
@@ -217,7 +218,7 @@ impl Controller {
         let this = samples::kept_sample(call.pair.this);
         Controller {
             last: call.time,
-            previous: samples::pick(keeps, this, self.previous),
+            previous: if keeps { this } else { self.previous },
             ..self
         }
     }

@@ -17,7 +17,7 @@ use faults::Faults;
 use parts::lines::Lines;
 use parts::moments::Moment;
 use parts::samples::Pair;
-use parts::{moments, samples};
+use parts::samples;
 use pilot::verdicts;
 use pilot::verdicts::Verdict;
 use units::{Levels, Milliamps, Millis};
@@ -83,8 +83,11 @@ pub fn settled_by(pair: Pair, settled: u8) -> u8
 pub fn sound_by(time: Millis, pair: Pair, sound: Moment) -> Moment
     ensures { as_moment result ≡ sound_by time.0 (as_pair pair) (as_moment sound) }
 {
-    let is_sound = pair.sampled && pair.this.sound;
-    moments::pick(is_sound, Moment::set_to(time), sound)
+    if pair.sampled && pair.this.sound {
+        Moment::set_to(time)
+    } else {
+        sound
+    }
 }
 
 // Limit stored.

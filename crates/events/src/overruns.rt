@@ -8,7 +8,6 @@ ghost use Rattle.events.specs.Views.{as_event};
 
 use crate::Event;
 use duty::{AboveScale, Reading};
-use parts::moments;
 use parts::moments::Moment;
 use units::{Milliamps, Millis};
 
@@ -63,7 +62,11 @@ fn is_over(line: Milliamps, allowed: Milliamps) -> bool
 fn overrun_judged(time: Millis, line: Milliamps, allowed: Milliamps, overrun: Moment) -> Moment
     ensures { as_moment result ≡ overrun_judged time.0 line.0 allowed.0 (as_moment overrun) }
 {
-    moments::pick(is_over(line, allowed), overrun.started_by(time), Moment::empty())
+    if is_over(line, allowed) {
+        overrun.started_by(time)
+    } else {
+        Moment::empty()
+    }
 }
 
 // The over-run after the event: only a measure starts or ends it here, on the largest of its currents, and only where it is judged.

@@ -1,5 +1,5 @@
 // The current on each line.
-ghost use Rattle.std.specs.Prelude.{◌≡◌, cond};
+ghost use Rattle.std.specs.Prelude.{◌≡◌};
 ghost use Rattle.rules.specs.Lines.{no_currents, largest, line_allowed, lines_allowed};
 ghost use Rattle.parts.specs.Views.{as_lines};
 
@@ -19,18 +19,6 @@ fn line_allowed(current: Milliamps) -> bool
     ensures { result ≡ line_allowed current.0 }
 {
     current <= Milliamps(200000)
-}
-
-// The first if told so, else the second: line by line (DECISIONS, 40).
-#[tactic(auto, using(crate::proofs::Chosen::lines_chosen))]
-pub fn pick(first: bool, a: Lines, b: Lines) -> Lines
-    ensures { as_lines result ≡ cond first (as_lines a) (as_lines b) }
-{
-    Lines {
-        line1: units::pick(first, a.line1, b.line1),
-        line2: units::pick(first, a.line2, b.line2),
-        line3: units::pick(first, a.line3, b.line3),
-    }
 }
 
 impl Lines {

@@ -1,5 +1,5 @@
 // Times and starts that may be empty: the last sound sample, the last opening, the over-run, the stop.
-ghost use Rattle.std.specs.Prelude.{◌≡◌, cond};
+ghost use Rattle.std.specs.Prelude.{◌≡◌};
 ghost use Rattle.rules.specs.State.{empty, set_to, started_by, never_or_ago, never_or_longer_ago};
 ghost use Rattle.rules.specs.Step2Latches.{ran_for};
 ghost use Rattle.rules.specs.Altered.{stored_allowed};
@@ -35,7 +35,7 @@ impl Moment {
     pub fn started_by(self, time: Millis) -> Moment
         ensures { as_moment result ≡ started_by time.0 (as_moment self) }
     {
-        Moment::set_to(units::pick(self.set, self.time, time))
+        if self.set { self } else { Moment::set_to(time) }
     }
 
     // It runs, and began that long ago or longer.
@@ -66,15 +66,5 @@ impl Moment {
         ensures { result ≡ stored_allowed last.0 (as_moment self) }
     {
         !self.set || self.time <= last
-    }
-}
-
-// The first if told so, else the second: field by field (DECISIONS, 40).
-pub fn pick(first: bool, a: Moment, b: Moment) -> Moment
-    ensures { as_moment result ≡ cond first (as_moment a) (as_moment b) }
-{
-    Moment {
-        set: units::pick(first, a.set, b.set),
-        time: units::pick(first, a.time, b.time),
     }
 }

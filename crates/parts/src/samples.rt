@@ -1,5 +1,5 @@
 // This and the previous sample: two successive accepted samples with nothing forgotten between them.
-ghost use Rattle.std.specs.Prelude.{◌≡◌, cond};
+ghost use Rattle.std.specs.Prelude.{◌≡◌};
 ghost use Rattle.rules.specs.State.{no_verdict, forgotten, kept_sample};
 ghost use Rattle.rules.specs.Step3Wave.{is_settled};
 ghost use Rattle.rules.specs.Pairs.{paired, same_band, in_one_band, both_proven, both_diode_bad, both_unsound};
@@ -52,23 +52,6 @@ pub fn kept_sample(verdict: Verdict) -> Previous
     Previous {
         kept: true,
         verdict,
-    }
-}
-
-// The first if told so, else the second: field by field, which the compiler makes faster code of than of a struct chosen whole
-// (DECISIONS, 40).
-pub fn pick(first: bool, a: Previous, b: Previous) -> Previous
-    ensures { as_previous result ≡ cond first (as_previous a) (as_previous b) }
-{
-    let (this, that) = (a.verdict, b.verdict);
-    Previous {
-        kept: units::pick(first, a.kept, b.kept),
-        verdict: Verdict {
-            band: units::pick(first, this.band, that.band),
-            sound: units::pick(first, this.sound, that.sound),
-            proven: units::pick(first, this.proven, that.proven),
-            diodebad: units::pick(first, this.diodebad, that.diodebad),
-        },
     }
 }
 

@@ -4,7 +4,6 @@ ghost use Rattle.units.specs.Wave.{driven_in};
 ghost use Rattle.rules.specs.Step3Wave.{lowers_duty, restarts, overrun_under, stop_under};
 ghost use Rattle.parts.specs.Views.{as_moment};
 
-use parts::moments;
 use parts::moments::Moment;
 use units::Millis;
 
@@ -45,8 +44,13 @@ impl Change {
     pub fn overrun_under(self, time: Millis, overrun: Moment) -> Moment
         ensures { as_moment result ≡ overrun_under self.digital time.0 self.old self.wave (as_moment overrun) }
     {
-        let runs = moments::pick(self.restarts(overrun), Moment::set_to(time), overrun);
-        moments::pick(self.is_driven(), runs, Moment::empty())
+        if !self.is_driven() {
+            Moment::empty()
+        } else if self.restarts(overrun) {
+            Moment::set_to(time)
+        } else {
+            overrun
+        }
     }
 
     // A stop starts where the contactor is closed and the wave high, and ends where the wave is driven.
@@ -54,7 +58,12 @@ impl Change {
     pub fn stop_under(self, time: Millis, closed: bool, stop: Moment) -> Moment
         ensures { as_moment result ≡ stop_under self.digital time.0 self.wave closed (as_moment stop) }
     {
-        let unless_driven = moments::pick(self.is_driven(), Moment::empty(), stop);
-        moments::pick(closed && self.wave == 1000, stop.started_by(time), unless_driven)
+        if closed && self.wave == 1000 {
+            stop.started_by(time)
+        } else if self.is_driven() {
+            Moment::empty()
+        } else {
+            stop
+        }
     }
 }
