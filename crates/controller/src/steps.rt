@@ -109,9 +109,9 @@ impl Controller {
         let unsettles = self.unsettles(call);
         let diode = call.pair.both_diode_bad();
         let over = self.over_current(call.time);
-        let previous = if unsettles { samples::forgotten() } else { self.previous };
+        let previous = units::pick(unsettles, samples::forgotten(), self.previous);
         Controller {
-            settled: if unsettles { 0 } else { self.settled },
+            settled: units::pick(unsettles, 0, self.settled),
             faults: self.faults.with_latches(diode, over),
             previous,
             ..self
@@ -171,15 +171,13 @@ impl Controller {
     pub(crate) fn opening(self, call: Accepted) -> Controller
         ensures { view result ≡ on_state (step_opening call.time.0 (as_pair call.pair)) (view self) }
     {
-        if !self.opens(call) {
-            return self;
-        }
+        let opens = self.opens(call);
         Controller {
-            closed: false,
-            opening: Moment::set_to(call.time),
-            overrun: Moment::empty(),
-            stop: Moment::empty(),
-            previous: samples::forgotten(),
+            closed: self.closed && !opens,
+            opening: units::pick(opens, Moment::set_to(call.time), self.opening),
+            overrun: units::pick(opens, Moment::empty(), self.overrun),
+            stop: units::pick(opens, Moment::empty(), self.stop),
+            previous: units::pick(opens, samples::forgotten(), self.previous),
             ..self
         }
     }
@@ -218,7 +216,7 @@ impl Controller {
         let this = samples::kept_sample(call.pair.this);
         Controller {
             last: call.time,
-            previous: if keeps { this } else { self.previous },
+            previous: units::pick(keeps, this, self.previous),
             ..self
         }
     }

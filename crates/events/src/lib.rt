@@ -83,11 +83,7 @@ pub fn settled_by(pair: Pair, settled: u8) -> u8
 pub fn sound_by(time: Millis, pair: Pair, sound: Moment) -> Moment
     ensures { as_moment result ≡ sound_by time.0 (as_pair pair) (as_moment sound) }
 {
-    if pair.sampled && pair.this.sound {
-        Moment::set_to(time)
-    } else {
-        sound
-    }
+    units::pick(pair.sampled && pair.this.sound, Moment::set_to(time), sound)
 }
 
 // Limit stored.

@@ -35,7 +35,7 @@ impl Moment {
     pub fn started_by(self, time: Millis) -> Moment
         ensures { as_moment result ≡ started_by time.0 (as_moment self) }
     {
-        if self.set { self } else { Moment::set_to(time) }
+        Moment::set_to(units::pick(self.set, self.time, time))
     }
 
     // It runs, and began that long ago or longer.

@@ -32,7 +32,7 @@ pub struct Levels {
     pub low: Millivolts,
 }
 
-// The first if told so, else the second.
+// The first if told so, else the second: chosen without a jump (DECISIONS, 40).
 pub fn pick<T: Copy>(first: bool, a: T, b: T) -> T
     ensures { result ≡ cond first a b }
 {

@@ -2,16 +2,16 @@
 use mathlib.Core.Path.{◌≡◌, refl, ◌∙◌, sym, ap}
 use mathlib.Core.Bool.{Bool, true, false, cond}
 use mathlib.Core.List.{List, [], ◌∷◌}
-use Prim.Native.Nat.{ℕ, ◌+◌, ◌<◌}
+use Prim.Native.Nat.{ℕ, ◌+◌, ◌<◌, ◌≤◌}
 use lib.IntN.{ℤ, pos}
 use lib.ListN.{length, get_or, drop}
+use Rattle.std.proofs.lemmas.List.{drop_more, drop_all}
 use Rattle.units.proofs.LevelOrder.{within_parts}
 use Rattle.units.proofs.Booleans.{both_ways}
 use Rattle.units.specs.Range.{higher, lower}
 use Rattle.window.specs.Support.{supported}
 use Rattle.window.specs.Evaluation.{Evaluation, levels, refused, select, extreme, greatest, least, levels_of, supported_levels}
 use Rattle.window.specs.Search.{inside, widen, gather}
-use Rattle.window.proofs.Turns.{next}
 
 module _ (test : ℤ → Bool) where
   -- from levels on, the greatest and the least are widened
@@ -38,33 +38,12 @@ module _ (test : ℤ → Bool) where
       go true ih = gather_levels xs x x
       go false ih = ih
 
-  pub gather_none : (found : Evaluation) → gather test found [] ≡ found
-  unfolding gather
-  gather_none found = refl
-
   gather_cons : (found : Evaluation) (x : ℤ) (xs : List ℤ) → gather test found (x ∷ xs) ≡ gather test (cond (test x) (widen found x) found) xs
   unfolding gather
   gather_cons found x xs = refl
 
-  module _ (found : Evaluation) (window : List ℤ) (i : ℕ) (x : ℤ) (here : x ≡ get_or window i (pos 0)) (h : i < length window) where
-    -- a reading that passes widens the levels
-    pub gather_passed : test x ≡ true → gather test (widen found x) (drop (i + 1) window) ≡ gather test found (drop i window)
-    gather_passed passes = rw (next window i h, ← here, gather_cons, passes)
-
-    -- one that does not changes nothing
-    pub gather_failed : test x ≡ false → gather test found (drop (i + 1) window) ≡ gather test found (drop i window)
-    gather_failed fails = rw (next window i h, ← here, gather_cons, fails)
-
-    -- nor does one that the levels hold already, whether it passes or not
-    pub gather_kept : widen found x ≡ found → gather test found (drop (i + 1) window) ≡ gather test found (drop i window)
-    gather_kept same = go (test x) refl
-      where
-        go : (t : Bool) → test x ≡ t → gather test found (drop (i + 1) window) ≡ gather test found (drop i window)
-        go true passes = ap (λ (f : Evaluation). gather test f (drop (i + 1) window)) (sym same) ∙ gather_passed passes
-        go false fails = gather_failed fails
-
 -- a reading within the levels leaves them as they are
-pub inside_keeps : (found : Evaluation) (x : ℤ) → inside found x ≡ true → widen found x ≡ found
+inside_keeps : (found : Evaluation) (x : ℤ) → inside found x ≡ true → widen found x ≡ found
 unfolding inside widen higher lower
 inside_keeps (levels high low) x e =
     let both = within_parts low high x e in
@@ -75,3 +54,27 @@ inside_keeps (refused number) x e = both_ways (sym e)
 pub whole : (window : List ℤ) → gather (supported window) (refused 6) window ≡ supported_levels window
 unfolding supported_levels
 whole window = gather_all (supported window) window
+
+-- the end of it
+pub over : (test : ℤ → Bool) (found : Evaluation) (window : List ℤ) (i : ℕ) → length window ≤ i → gather test found (drop i window) ≡ found
+unfolding gather
+over test found window i h = rw (drop_all i window h)
+
+module _ (test : ℤ → Bool) (found : Evaluation) (window : List ℤ) (i : ℕ) (x : ℤ) (h : i < length window) (here : x ≡ get_or window i (pos 0)) where
+  -- a reading that passes widens the levels
+  pub passed : test x ≡ true → gather test (widen found x) (drop (i + 1) window) ≡ gather test found (drop i window)
+  passed passes = rw (drop_more window i (pos 0) h, ← here, gather_cons, passes)
+
+  -- one that does not changes nothing
+  pub failed : test x ≡ false → gather test found (drop (i + 1) window) ≡ gather test found (drop i window)
+  failed fails = rw (drop_more window i (pos 0) h, ← here, gather_cons, fails)
+
+  -- nor does one that the levels hold already, whether it passes or not
+  pub held : inside found x ≡ true → gather test found (drop (i + 1) window) ≡ gather test found (drop i window)
+  held within = go (test x) refl
+    where
+      go : (t : Bool) → test x ≡ t → gather test found (drop (i + 1) window) ≡ gather test found (drop i window)
+      go true passes = ap (λ (f : Evaluation). gather test f (drop (i + 1) window)) (sym (inside_keeps found x within)) ∙ passed passes
+      go false fails = failed fails
+
+pub ruleset gathering = (whole, over, passed, failed, held)

@@ -4,8 +4,7 @@ ghost use Rattle.window.specs.Evaluation.{supported_levels};
 ghost use Rattle.window.specs.Search.{inside, widen};
 ghost use Rattle.window.specs.Numbers.{as_found};
 
-use crate::readings::reading;
-use crate::support::{near, needed};
+use crate::support::is_supported;
 use units::{Levels, Millivolts, Quantity};
 
 // A level lies within the levels found so far.
@@ -21,38 +20,32 @@ fn inside(found: Option<Levels>, level: Millivolts) -> bool
 fn widened(found: Option<Levels>, level: Millivolts) -> Levels
     ensures { as_found (Some result) ≡ widen (as_found found) level.0 }
 {
-    let Levels { high, low } = found.unwrap_or(Levels { high: level, low: level });
-    Levels {
-        high: high.max(level),
-        low: low.min(level),
+    match found {
+        None => Levels {
+            high: level,
+            low: level,
+        },
+        Some(Levels { high, low }) => Levels {
+            high: high.max(level),
+            low: low.min(level),
+        },
     }
 }
 
 // The levels of the supported readings. A reading that lies within the levels found so far changes nothing, and is not counted
 // (DECISIONS, 10).
+#[tactic(auto, using(crate::proofs::Gathering::gathering))]
 pub fn levels(window: &[i32]) -> Option<Levels>
     ensures { as_found result ≡ supported_levels window.now }
 {
-    let n = window.len();
-    let wanted = needed(n);
-    let mut found: Option<Levels> = None;
-    for i in 0..n {
-        let level = reading(window, i);
-        let within_found = inside(found, level);
-        if within_found {
+    let mut found = None;
+    for reading in window {
+        let level = Millivolts(*reading);
+        if inside(found, level) {
             continue;
         }
-        let mut count: usize = 0;
-        'count: for j in 0..n {
-            let close = near(level, reading(window, j));
-            if close {
-                count += 1;
-                // No further supporter can change the answer.
-                if wanted <= count {
-                    found = Some(widened(found, level));
-                    break 'count;
-                }
-            }
+        if is_supported(window, level) {
+            found = Some(widened(found, level));
         }
     }
     found
