@@ -36,9 +36,9 @@ pub trait Quantity: Ord + Copy {
 }
 
 impl Quantity for Millivolts {
-    ghost at_most = { λ a b. le_z a.0 b.0 };
+    ghost at_most = { λ low high. le_z low.0 high.0 };
 
-    ghost below = { λ a b. lt_z a.0 b.0 };
+    ghost below = { λ low high. lt_z low.0 high.0 };
 
     ghost at_most_is = { Prim.search rules };
 
@@ -50,9 +50,9 @@ impl Quantity for Millivolts {
 }
 
 impl Quantity for Milliamps {
-    ghost at_most = { λ a b. leb a.0 b.0 };
+    ghost at_most = { λ less more. leb less.0 more.0 };
 
-    ghost below = { λ a b. ltb a.0 b.0 };
+    ghost below = { λ less more. ltb less.0 more.0 };
 
     ghost at_most_is = { Prim.search rules };
 
@@ -64,9 +64,9 @@ impl Quantity for Milliamps {
 }
 
 impl Quantity for Millis {
-    ghost at_most = { λ a b. leb a.0 b.0 };
+    ghost at_most = { λ early late. leb early.0 late.0 };
 
-    ghost below = { λ a b. ltb a.0 b.0 };
+    ghost below = { λ early late. ltb early.0 late.0 };
 
     ghost at_most_is = { Prim.search rules };
 
