@@ -1,7 +1,6 @@
 -- A call's answer from its parts. An accepted call was lent a count in range, so that 32 bits hold the next one.
-use mathlib.Core.Path.{◌≡◌, refl, ap, sym, ◌∙◌}
-use mathlib.Core.Bool.{Bool, true, false, cond}
-use Prim.Native.Nat.{ℕ}
+use mathlib.Core.Path.{◌≡◌, ap, sym, ◌∙◌}
+use mathlib.Core.Bool.{true, false}
 use lib.Dec.{eqb}
 use Rattle.refusals.specs.Numbers.{number_of}
 use Rattle.refusals.specs.declared.refusal.Refusal.{Refusal}

@@ -133,7 +133,12 @@ impl Controller {
         ensures { view result ≡ on_state (step_wave time.0) (view self) }
     {
         let digital = self.settings.digital;
-        let wave = waves::wave_for(self.faults.any(), self.held_high(), digital, self.available());
+        let wave = waves::wave_for(
+            self.faults.any(),
+            self.held_high(),
+            digital,
+            self.available(),
+        );
         let change = Change {
             digital,
             old: self.wave,
@@ -192,7 +197,9 @@ impl Controller {
             && self.is_driven()
             && grants::has_grant(self.settings.digital, self.grant)
             && call.pair.both_proven()
-            && self.opening.none_or_at_least_ago(self.settings.pause, call.time)
+            && self
+                .opening
+                .none_or_at_least_ago(self.settings.pause, call.time)
     }
 
     // Step 5: closing.

@@ -166,11 +166,11 @@ reading_from : Reads → Result Reading AboveScale
 reading_from no_charging = Ok NoCharging
 reading_from digital_only = Ok DigitalOnly
 reading_from (current milliamps) = Ok (Current (record { 0 = milliamps }))
-reading_from (refused number) = Err (record { })
+reading_from (refused number) = Err (record {})
 
 sent_from : Sends → Result ℕ TooLow
 sent_from (duty d) = Ok d
-sent_from (refusal number) = Err (record { })
+sent_from (refusal number) = Err (record {})
 
 reading_back : (r : Result Reading AboveScale) → reading_from (as_reads r) ≡ r
 unfolding reading_from

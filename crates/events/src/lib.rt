@@ -2,8 +2,6 @@
 // Step 1 of an accepted call: its event. A call's kind and arguments, and what each kind does.
 mod overruns; // overruns.rt: what a measure does to the over-run
 
-pub use overruns::{Bound, overrun_by};
-
 ghost use Rattle.std.specs.Prelude.{◌≡◌};
 ghost use Rattle.rules.specs.Calls.{is_sample, is_fault};
 ghost use Rattle.rules.specs.Pairs.{verdict};
@@ -14,10 +12,11 @@ ghost use Rattle.faults.specs.Views.{as_faults};
 ghost use Rattle.events.specs.Views.{as_event};
 
 use faults::Faults;
+pub use overruns::{Bound, overrun_by};
 use parts::lines::Lines;
 use parts::moments::Moment;
-use parts::samples::Pair;
 use parts::samples;
+use parts::samples::Pair;
 use pilot::verdicts;
 use pilot::verdicts::Verdict;
 use units::{Levels, Milliamps, Millis};
@@ -75,7 +74,11 @@ pub fn verdict_of(event: Event, driven: bool, ventilation: bool) -> Verdict
 pub fn settled_by(pair: Pair, settled: u8) -> u8
     ensures { result ≡ settled_by (as_pair pair) settled }
 {
-    if pair.in_one_band() { pair.this.band } else { settled }
+    if pair.in_one_band() {
+        pair.this.band
+    } else {
+        settled
+    }
 }
 
 // The time of the last sound sample.

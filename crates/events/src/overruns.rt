@@ -44,7 +44,11 @@ impl Bound {
     fn allowed(self) -> Milliamps
         ensures { result.0 ≡ allowed_by self.digital self.least.0 self.wave }
     {
-        if self.digital { self.least } else { announced(self.wave) }
+        if self.digital {
+            self.least
+        } else {
+            announced(self.wave)
+        }
     }
 }
 

@@ -7,5 +7,9 @@ ghost use Rattle.parts.specs.Counted.{counted};
 pub fn counted(closing: bool, closings: u32) -> u32
     ensures { result ≡ counted closing closings }
 {
-    if closing { closings.saturating_add(1) } else { closings }
+    if closing {
+        closings.saturating_add(1)
+    } else {
+        closings
+    }
 }

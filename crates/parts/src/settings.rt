@@ -44,7 +44,11 @@ pub fn asks_default(pause: Millis) -> bool
 fn pause_for(pause: Millis) -> Millis
     ensures { result.0 ≡ pause_for pause.0 }
 {
-    if asks_default(pause) { Millis(10000) } else { pause }
+    if asks_default(pause) {
+        Millis(10000)
+    } else {
+        pause
+    }
 }
 
 // The settings with the pause in force.

@@ -20,7 +20,9 @@ pub struct Verdict {
 pub fn sound(driven: bool, levels: Levels) -> bool
     ensures { result ≡ sound driven levels.high.0 levels.low.0 }
 {
-    levels.high.strictly_between(Millivolts(1500), Millivolts(7500))
+    levels
+        .high
+        .strictly_between(Millivolts(1500), Millivolts(7500))
         && (!driven || bands::in_low_band(levels.low))
 }
 
@@ -29,9 +31,7 @@ pub fn sound(driven: bool, levels: Levels) -> bool
 pub fn proven(driven: bool, levels: Levels, ventilation: bool) -> bool
     ensures { result ≡ proven driven levels.high.0 levels.low.0 ventilation }
 {
-    driven
-        && bands::ready(bands::band(levels.high), ventilation)
-        && bands::in_low_band(levels.low)
+    driven && bands::ready(bands::band(levels.high), ventilation) && bands::in_low_band(levels.low)
 }
 
 // Diode-bad: a driven wave shows a van that is plugged in, and no diode.

@@ -1,6 +1,5 @@
 -- For each refusal, document 01's number.
 use Rattle.std.specs.Prelude.{ℕ, Result, Ok, Err}
-use Rattle.window.specs.declared.Refused.{Refused}
 use Rattle.window.specs.declared.Refused.TheVariants as refused
 use Rattle.refusals.specs.declared.refusal.Refusal.{Refusal}
 use Rattle.refusals.specs.declared.refusal.Refusal.TheVariants.{Settings, Earlier, Late, Window, Measure, Kind, Grant, Plain, Limit}

@@ -2,8 +2,6 @@
 // What a call is refused for: 3, then 2, then by number, but 12 before 11.
 mod refusal; // refusal.rt: the refusals and their numbers
 
-pub use refusal::Refusal;
-
 ghost use Rattle.std.specs.Prelude.{◌≡◌};
 ghost use Rattle.rules.specs.Begin.{too_late, begin_refusal};
 ghost use Rattle.rules.specs.Altered.{count_allowed, duty_allowed, wave_allowed};
@@ -16,6 +14,7 @@ use events::Event;
 use faults::Fault;
 use parts::settings::Settings;
 use parts::{grants, settings};
+pub use refusal::Refusal;
 use units::{Milliamps, Millis};
 
 // Beyond the scale of times.
@@ -51,7 +50,11 @@ pub fn limit_allowed(current: Milliamps) -> bool
 fn duty_allowed(digital: bool, wave: u32) -> bool
     ensures { result ≡ duty_allowed digital wave }
 {
-    if digital { units::is_five_percent(wave) } else { units::driven(wave) }
+    if digital {
+        units::is_five_percent(wave)
+    } else {
+        units::driven(wave)
+    }
 }
 
 // The wave's range in a lent controller of this mark.

@@ -4,11 +4,11 @@
 mod quantity; // quantity.rt: the order of levels, currents and times
 mod wave; // wave.rt: the wave command
 
-pub use quantity::Quantity;
-pub use wave::{driven, driven_in, is_five_percent};
-
 ghost use Rattle.std.specs.Prelude.{◌≡◌, cond};
 ghost use Rattle.units.specs.Range.{ago, longer_ago};
+
+pub use quantity::Quantity;
+pub use wave::{driven, driven_in, is_five_percent};
 
 // A level of the control pilot, in millivolts.
 #[repr(C)]

@@ -2,12 +2,11 @@
 // Step 3 of an accepted call: the wave, and what follows from it for the over-run and the stop.
 mod change; // change.rt: from the wave that the call finds to the one that it commands
 
-pub use change::Change;
-
 ghost use Rattle.std.specs.Prelude.{◌≡◌};
 ghost use Rattle.duty.specs.DutyFor.{duty_for};
 ghost use Rattle.rules.specs.Step3Wave.{is_uae, unventilated_d, no_duty, sent, driven_wave, wave_of};
 
+pub use change::Change;
 use parts::samples;
 use units::Milliamps;
 
