@@ -1,73 +1,46 @@
 // A row as a call: lent a controller, it hands the next one on.
-ghost use Rattle.std.specs.Prelude.{◌≤◌};
-
 use calls::Answer;
 use controller::Controller;
 use parts::replies;
 use tables::rows::Row;
-use tables::text::narrow;
-use tables::words;
 
-// How long before a time the samples up to it start: 10 after the last accepted call.
-fn lead(word: u64, accepted: u64, last: u64) -> u64
-    ensures { result ≤ last }
-{
-    if word == words::SAMPLE {
-        return 0;
-    }
-    if last < 10 {
-        return 0;
-    }
-    if accepted < last - 10 {
-        last - 10 - accepted
-    } else {
-        0
-    }
-}
-
-// A sample at a time, or every 10 up to it.
-fn sample(c: Controller, word: u64, last: u64, window: &[i32]) -> Answer {
+// A sample every 10 after the last accepted call, up to that time.
+fn samples(c: Controller, last: u64, window: &[i32]) -> Answer {
+    let first = c.last.0.saturating_add(10);
     let mut held = c;
-    let mut left = lead(word, c.last.0, last);
-    while 10 <= left {
-        let a = calls::sample(held, last - left, window);
-        held = a.controller;
-        left -= 10;
+    for time in (first..=last.saturating_sub(10)).step_by(10) {
+        held = calls::sample(held, time, window).controller;
     }
     calls::sample(held, last, window)
 }
 
-// A measure with one current, or with one for each line.
-fn measure(r: Row, c: Controller) -> Answer {
-    let line1 = narrow(r.b);
-    let line2 = narrow(r.c);
-    let line3 = narrow(r.d);
-    if r.lines {
-        calls::measure_lines(c, r.a, line1, line2, line3)
-    } else {
-        calls::measure(c, r.a, line1)
-    }
-}
-
 // The answer to a call; a row that is none hands back what it was lent.
-pub fn answer(r: Row, c: Controller, window: &[i32]) -> Answer {
-    let word = r.word;
-    let number = narrow(r.b);
-    match word {
-        words::BEGIN => calls::begin(c, r.a, number, r.c, r.d == words::YES, r.digital),
-        words::SAMPLE | words::SAMPLES => sample(c, word, r.a, window),
-        words::LIMIT => calls::limit(c, r.a, number),
-        words::MEASURE => measure(r, c),
-        words::LINK => calls::link(c, r.a, number),
-        words::FAULT => calls::fault(c, r.a, number),
-        words::CLEAR => calls::clear(c, r.a),
-        words::TICK => calls::tick(c, r.a),
-        _ => {
-            let reply = replies::alone(0);
-            Answer {
-                controller: c,
-                reply: reply,
-            }
+pub fn answer(row: Option<Row>, c: Controller) -> Answer {
+    match row {
+        Some(
+            Row::Begin {
+                time,
+                rated,
+                pause,
+                ventilation,
+                digital,
+            },
+        ) => calls::begin(c, time, rated, pause, ventilation, digital),
+        Some(Row::Sample(time, window)) => calls::sample(c, time, window),
+        Some(Row::Samples(time, window)) => samples(c, time, window),
+        Some(Row::Limit(time, current)) => calls::limit(c, time, current),
+        Some(Row::Measure(time, current)) => calls::measure(c, time, current),
+        Some(Row::MeasureLines(time, lines)) => {
+            let [line1, line2, line3] = lines;
+            calls::measure_lines(c, time, line1, line2, line3)
         }
+        Some(Row::Link(time, granted)) => calls::link(c, time, granted),
+        Some(Row::Fault(time, kind)) => calls::fault(c, time, kind),
+        Some(Row::Clear(time)) => calls::clear(c, time),
+        Some(Row::Tick(time)) => calls::tick(c, time),
+        _ => Answer {
+            controller: c,
+            reply: replies::alone(0),
+        },
     }
 }

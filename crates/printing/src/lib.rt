@@ -1,5 +1,4 @@
 #![tactic(auto)]
 // What crate figures writes: each row as it stands, and the answer beside it.
 pub mod beside; // the answer to a row
-pub mod phrases; // the words
-pub mod print; // words, amounts, levels and replies
+pub mod replies; // the reply to a call

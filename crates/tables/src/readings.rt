@@ -1,38 +1,21 @@
 // Windows of readings to evaluate.
-use crate::text;
-use crate::text::Token;
+ghost use Rattle.std.specs.Prelude.{◌<◌, ◌≤◌, length, IfSome};
 
-// Puts one level at a place and at every later one.
-fn put(window: &mut [i32], from: usize, level: i32) {
-    let mut i = 0;
-    while i < window.len() {
-        if from <= i {
-            window[i] = level;
-        }
-        i += 1;
-    }
-}
+use crate::numbers::level;
+use crate::text::Tokens;
 
-// Puts the readings behind a token of the line, up to 40 runs of them. It answers the last token, with how many readings there are.
-pub fn put_all(window: &mut [i32], line: &[u8], before: Token) -> Token {
-    let mut t = before;
-    let mut n = 0;
-    let mut k: usize = 0;
-    while k < 40 {
-        t = text::next(line, t);
-        put(window, n, text::level(t.value));
-        n += t.readings % 1000000;
-        k += 1;
+// Puts the readings of up to 40 runs into the space, as many as it holds. There is no window with more runs, or with no reading.
+pub fn window<'a>(space: &'a mut [i32], runs: Tokens) -> Option<&'a [i32]>
+    ensures some { IfSome result (λ w. 0 < length w.now) }
+    ensures within { IfSome result (λ w. length w.now ≤ length space.old) }
+{
+    if runs.count() > 40 {
+        return None;
     }
-    t.readings = n;
-    t
-}
-
-// The first n, or all of them.
-pub fn first(window: &[i32], n: usize) -> &[i32] {
-    if n <= window.len() {
-        &window[0..n]
-    } else {
-        window
+    let mut end = 0;
+    for run in runs {
+        space[end..].fill(level(run.value));
+        end = end.saturating_add(run.readings).min(space.len());
     }
+    if end == 0 { None } else { Some(&space[..end]) }
 }

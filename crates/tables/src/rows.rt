@@ -1,109 +1,184 @@
 // A row: a word, and what belongs to it.
-use crate::text::Token;
-use crate::{readings, text, words};
+use crate::numbers::{level, narrow};
+use crate::readings::window;
+use crate::text::{Kind, Token, Tokens};
+use crate::words::Word;
 
+// Times are in ms, currents in mA, levels in mV.
 #[derive(Clone, Copy)]
-pub struct Row {
-    // The word, 0 where the row is not understood, and what follows it.
-    pub word: u64,
-    pub a: u64,
-    pub b: u64,
-    pub c: u64,
-    pub d: u64,
-    // How many readings its window has.
-    pub readings: usize,
-    // A measure brings a current for each line.
-    pub lines: bool,
-    // Begin has the mark of a digital post.
-    pub digital: bool,
+pub enum Row<'a> {
+    // Which controller is lent.
+    Keep,
+    Kept,
+    Zeroed,
+    With {
+        field: Word,
+        value: u64,
+    },
+    // Single functions.
+    Available(u32),
+    Reading(u32),
+    Sound {
+        high: i32,
+        low: i32,
+    },
+    Low(i32),
+    Levels(&'a [i32]),
+    // Calls, each with its time.
+    Begin {
+        time: u64,
+        rated: u32,
+        pause: u64,
+        ventilation: bool,
+        digital: bool,
+    },
+    Sample(u64, &'a [i32]),
+    // A sample every 10 ms, up to that time.
+    Samples(u64, &'a [i32]),
+    Limit(u64, u32),
+    Measure(u64, u32),
+    MeasureLines(u64, [u32; 3]),
+    Link(u64, u32),
+    Fault(u64, u32),
+    Clear(u64),
+    Tick(u64),
 }
 
-// The form of a begin: without its mark, which means a plain post, or with it.
-fn begin_form(mark: u64, form: u64) -> u64 {
-    match form {
-        30300 => match mark {
-            words::DIGITAL | words::PLAIN => 30300,
-            _ => 0,
-        },
-        _ => 20300,
+// The form of a row: how many tokens it has of each kind.
+#[derive(Clone, Copy)]
+struct Form {
+    words: usize,
+    numbers: usize,
+    levels: usize,
+}
+
+impl Form {
+    fn of(tokens: Tokens) -> Form {
+        let count = |kind| tokens.filter(|t| t.kind == kind).count();
+        Form {
+            words: count(Kind::Word),
+            numbers: count(Kind::Number),
+            levels: count(Kind::Level),
+        }
     }
 }
 
-// The form of a row with that word. A level may be below 0, and a window has any number of them, but not none.
-fn wanted(word: u64, a: u64, d: u64, mark: u64, readings: usize, form: u64) -> u64 {
+// Whether a token is the first of two words. None: it is neither.
+fn is_first(token: Token, first: Word, second: Word) -> Option<bool> {
+    match token.word()? {
+        word if word == first => Some(true),
+        word if word == second => Some(false),
+        _ => None,
+    }
+}
+
+fn is_field(word: Word) -> bool {
     match word {
-        words::KEEP | words::KEPT | words::ZEROED => 10000,
-        words::AVAILABLE | words::READING | words::CLEAR | words::TICK => 10100,
-        words::LIMIT | words::LINK | words::FAULT => 10200,
-        words::MEASURE => match form {
-            10400 => 10400,
-            _ => 10200,
-        },
-        words::BEGIN => match d {
-            words::YES | words::NO => begin_form(mark, form),
-            _ => 0,
-        },
-        words::WITH => match a {
-            words::RATED | words::PAUSE | words::LIMIT | words::WAVE | words::CLOSINGS => 20100,
-            words::DIGITAL | words::GRANT => 20100,
-            words::SOUND | words::OPENING | words::OVERRUN | words::STOP => 20100,
-            words::LINE1 | words::LINE2 | words::LINE3 => 20100,
-            _ => 0,
-        },
-        words::LOW => match form {
-            10001 => 10001,
-            _ => 10100,
-        },
-        words::SOUND => match form {
-            10101 | 10002 => form,
-            _ => 10200,
-        },
-        words::LEVELS | words::SAMPLE | words::SAMPLES => match readings {
-            0 => 0,
-            _ => 10000 + form % 10000,
-        },
-        _ => 0,
+        Word::Rated | Word::Pause | Word::Limit | Word::Wave | Word::Closings => true,
+        Word::Digital | Word::Grant => true,
+        Word::Sound | Word::Opening | Word::Overrun | Word::Stop => true,
+        Word::Line1 | Word::Line2 | Word::Line3 => true,
+        _ => false,
     }
 }
 
-// The word, where the row has the form that is wanted and nothing was left over.
-fn understood(word: u64, wanted: bool, whole: bool) -> u64 {
-    if wanted & whole { word } else { 0 }
+// What stands behind the word, up to five tokens.
+#[derive(Clone, Copy)]
+struct Arguments {
+    a: Token,
+    b: Token,
+    c: Token,
+    d: Token,
+    e: Token,
 }
 
-// Reads a row. Its readings are put into the window: they start behind the time, or behind the word where a row has no time.
-pub fn read(line: &[u8], window: &mut [i32]) -> Row {
-    let start = Token {
-        form: 0,
-        readings: 0,
-        value: 0,
-        next: 0,
-    };
-    let t = text::next(line, start);
-    let a = text::next(line, t);
-    let b = text::next(line, a);
-    let c = text::next(line, b);
-    let d = text::next(line, c);
-    let mark = text::next(line, d);
-    let before = if t.value == words::LEVELS { t } else { a };
-    let end = readings::put_all(window, line, before);
-    let wanted = wanted(
-        t.value,
-        a.value,
-        d.value,
-        mark.value,
-        end.readings,
-        end.form,
-    );
-    let word = understood(t.value, end.form == wanted, line.len() <= end.next);
-    Row {
-        word: word,
-        a: a.value,
-        b: b.value,
-        c: c.value,
-        d: d.value,
-        readings: end.readings,
-        lines: end.form == 10400,
-        digital: mark.value == words::DIGITAL,
+impl Arguments {
+    fn of(mut tokens: Tokens) -> Arguments {
+        Arguments {
+            a: tokens.next().unwrap_or(Token::NOTHING),
+            b: tokens.next().unwrap_or(Token::NOTHING),
+            c: tokens.next().unwrap_or(Token::NOTHING),
+            d: tokens.next().unwrap_or(Token::NOTHING),
+            e: tokens.next().unwrap_or(Token::NOTHING),
+        }
+    }
+
+    // A begin without its mark means a plain post.
+    fn begin(self, marked: bool) -> Option<Row<'static>> {
+        Some(Row::Begin {
+            time: self.a.value,
+            rated: narrow(self.b.value),
+            pause: self.c.value,
+            ventilation: is_first(self.d, Word::Yes, Word::No)?,
+            digital: marked && is_first(self.e, Word::Digital, Word::Plain)?,
+        })
+    }
+
+    fn with(self) -> Option<Row<'static>> {
+        let field = self.a.word()?;
+        let value = self.b.value;
+        if is_field(field) {
+            Some(Row::With { field, value })
+        } else {
+            None
+        }
+    }
+
+    // A row without a window: the word, and how many words, numbers and levels it has to have.
+    fn plain(self, word: Word, form: Form) -> Option<Row<'static>> {
+        let (time, number) = (self.a.value, narrow(self.b.value));
+        match (word, form.words, form.numbers, form.levels) {
+            (Word::Keep, 1, 0, 0) => Some(Row::Keep),
+            (Word::Kept, 1, 0, 0) => Some(Row::Kept),
+            (Word::Zeroed, 1, 0, 0) => Some(Row::Zeroed),
+            (Word::With, 2, 1, 0) => self.with(),
+            (Word::Available, 1, 1, 0) => Some(Row::Available(narrow(self.a.value))),
+            (Word::Reading, 1, 1, 0) => Some(Row::Reading(narrow(self.a.value))),
+            (Word::Low, 1, 1, 0) | (Word::Low, 1, 0, 1) => Some(Row::Low(level(self.a.value))),
+            (Word::Sound, 1, 2, 0) | (Word::Sound, 1, 1, 1) | (Word::Sound, 1, 0, 2) => Some(
+                Row::Sound {
+                    high: level(self.a.value),
+                    low: level(self.b.value),
+                },
+            ),
+            (Word::Begin, 2, 3, 0) => self.begin(false),
+            (Word::Begin, 3, 3, 0) => self.begin(true),
+            (Word::Limit, 1, 2, 0) => Some(Row::Limit(time, number)),
+            (Word::Measure, 1, 2, 0) => Some(Row::Measure(time, number)),
+            (Word::Measure, 1, 4, 0) => Some(Row::MeasureLines(
+                time,
+                [number, narrow(self.c.value), narrow(self.d.value)],
+            )),
+            (Word::Link, 1, 2, 0) => Some(Row::Link(time, number)),
+            (Word::Fault, 1, 2, 0) => Some(Row::Fault(time, number)),
+            (Word::Clear, 1, 1, 0) => Some(Row::Clear(time)),
+            (Word::Tick, 1, 1, 0) => Some(Row::Tick(time)),
+            _ => None,
+        }
+    }
+}
+
+// A row with a window of readings: they start behind the word, or behind the time.
+fn windowed<'a>(word: Word, mut tokens: Tokens, space: &'a mut [i32]) -> Option<Row<'a>> {
+    if word == Word::Levels {
+        return Some(Row::Levels(window(space, tokens)?));
+    }
+    let time = tokens.next()?.value;
+    let readings = window(space, tokens)?;
+    Some(match word {
+        Word::Sample => Row::Sample(time, readings),
+        _ => Row::Samples(time, readings),
+    })
+}
+
+// Reads a row, with its readings in that space. None: it is not understood.
+pub fn read<'a>(line: &[u8], space: &'a mut [i32]) -> Option<Row<'a>> {
+    let form = Form::of(Tokens(line));
+    let mut tokens = Tokens(line);
+    match tokens.next()?.word()? {
+        word @ (Word::Levels | Word::Sample | Word::Samples) if form.words == 1 => {
+            windowed(word, tokens, space)
+        }
+        word => Arguments::of(tokens).plain(word, form),
     }
 }

@@ -1,138 +1,117 @@
-// Text: lines, and the words and numbers in them.
-ghost use Rattle.std.specs.Prelude.{◌≤◌, max, length};
+// The tokens of a line.
+ghost use Rattle.std.specs.Prelude.{length};
+ghost use Rattle.std.specs.Iterator.{at_most};
 
-// What is added to the size of a number below 0.
-const BELOW_ZERO: u64 = 1000000000000000;
-// The number of a token that is none, or more.
-const NO_NUMBER: u64 = 10000000000000000;
+use crate::numbers::Number;
+use crate::words::Word;
 
-// Where the next such byte is, or the end.
-pub fn end(text: &[u8], from: usize, stop: u8) -> usize
-    ensures { (from ≤ result) × (result ≤ max from (length text.now)) }
-{
-    let mut i = from;
-    while i < text.len() {
-        if text[i] == stop {
-            return i;
+// What a token counts as in the form of its row.
+#[derive(Clone, Copy, PartialEq, Eq)]
+pub enum Kind {
+    Word,
+    Number,
+    // A number below 0, or a run of readings.
+    Level,
+}
+
+// How often a number is read: a number alone stands for 128 readings, and 7x9000 for 7.
+#[derive(Clone, Copy)]
+struct Run {
+    times: u64,
+    number: Number,
+}
+
+impl Run {
+    // The run that a text writes. Behind each x a number starts afresh, and the last two count.
+    fn read(text: &[u8]) -> Option<Run> {
+        let mut times = 0;
+        let mut number = Number {
+            below_zero: false,
+            size: 128,
+        };
+        for part in text.split(|b| *b == b'x') {
+            times = number.value();
+            number = Number::read(part)?;
         }
-        i += 1;
+        Some(Run { times, number })
     }
-    i
+
+    // A run above 2,000 counts as a word.
+    fn kind(self) -> Kind {
+        if self.times > 2000 {
+            Kind::Word
+        } else if self.number.below_zero || self.times != 128 {
+            Kind::Level
+        } else {
+            Kind::Number
+        }
+    }
 }
 
 // A word or a number of a line.
 #[derive(Clone, Copy)]
 pub struct Token {
-    // What the line has up to here: 10,000 for each word, 100 for each number, 1 for each number below 0 or run of readings.
-    pub form: u64,
+    pub kind: Kind,
+    // Of a number its value, and of a word its last eight letters as one number.
+    pub value: u64,
     // How many readings it stands for.
     pub readings: usize,
-    // A word as in words.rt, or a number.
-    pub value: u64,
-    // Where the next token starts.
-    pub next: usize,
 }
 
-// A number with one byte more. It has up to 15 digits, and starts afresh behind the x of a run.
-fn number_with(number: u64, b: u8) -> u64 {
-    let n = number % 100000000000000000;
-    match b {
-        b'0'..=b'9' => if n % BELOW_ZERO < 100000000000000 {
-            n / BELOW_ZERO * BELOW_ZERO + n % BELOW_ZERO * 10 + (b as u64) % 16
-        } else {
-            NO_NUMBER
-        },
-        b'x' => n / NO_NUMBER * NO_NUMBER,
-        b'-' => if n == 0 { BELOW_ZERO } else { NO_NUMBER },
-        _ => NO_NUMBER,
-    }
-}
+impl Token {
+    // What is read past the end of a line.
+    pub const NOTHING: Token = Token {
+        kind: Kind::Word,
+        value: 0,
+        readings: 0,
+    };
 
-// The last eight letters, as in words.rt.
-fn word_with(word: u64, b: u8) -> u64 {
-    word % 72057594037927936 * 256 + (b as u64)
-}
-
-// How a token counts in the form. One without bytes, between two spaces, counts as a word, and so does a run above 2,000.
-fn weight(word: u64, number: u64, run: u64) -> u64 {
-    if word == 0 {
-        return 10000;
-    }
-    if NO_NUMBER <= number {
-        return 10000;
-    }
-    if 2000 < run {
-        return 10000;
-    }
-    if BELOW_ZERO <= number {
-        return 1;
-    }
-    if run == 128 { 100 } else { 1 }
-}
-
-fn made(before: u64, word: u64, number: u64, run: u64, next: usize) -> Token {
-    let weight = weight(word, number, run);
-    let form = before % 1000000000 + weight % 100000;
-    if NO_NUMBER <= number {
-        Token {
-            form: form,
-            readings: 0,
-            value: word,
-            next: next,
-        }
-    } else {
-        Token {
-            form: form,
-            readings: run as usize,
-            value: number,
-            next: next,
-        }
-    }
-}
-
-// The token behind another. A number stands for 128 readings, and 7x9000 for 7. Past the end of the line it is nothing.
-pub fn next(line: &[u8], before: Token) -> Token {
-    let from = before.next;
-    if line.len() <= from {
-        return Token {
-            form: before.form,
-            readings: 0,
-            value: 0,
-            next: from,
+    fn read(text: &[u8]) -> Token {
+        let Some(run) = Run::read(text) else {
+            return Token {
+                kind: Kind::Word,
+                value: text
+                    .iter()
+                    .fold(0, |letters, b| letters << 8 | u64::from(*b)),
+                readings: 0,
+            };
         };
-    }
-    let end = end(line, from, b' ');
-    let mut word = 0;
-    let mut number = 0;
-    let mut run = 128;
-    let mut i = from;
-    while i < end {
-        let b = line[i];
-        if b == b'x' {
-            run = number;
+        // One without bytes, between two spaces, counts as a word, though it is 0.
+        let kind = if text.is_empty() {
+            Kind::Word
+        } else {
+            run.kind()
+        };
+        Token {
+            kind,
+            value: run.number.value(),
+            readings: (run.times % 1_000_000) as usize,
         }
-        number = number_with(number, b);
-        word = word_with(word, b);
-        i += 1;
     }
-    made(before.form, word, number, run, end + 1)
+
+    // The word that the last eight letters spell. The bytes of a number can spell one, too.
+    pub fn word(self) -> Option<Word> {
+        let letters = self.value.to_be_bytes();
+        let zeros = self.value.leading_zeros() / 8;
+        Word::try_from(&letters[zeros as usize..]).ok()
+    }
 }
 
-// A number as a level; a size of a million or more, which is in no range, is a million.
-pub fn level(value: u64) -> i32 {
-    let size = value % BELOW_ZERO;
-    if 1000000 <= size {
-        return 1000000;
-    }
-    let level = size as i32;
-    if value < BELOW_ZERO { level } else { 0 - level }
-}
+// The tokens of a line, with a space between each two.
+#[derive(Clone, Copy)]
+pub struct Tokens<'a>(pub &'a [u8]);
 
-// A number of 32 bits; a larger one is the largest.
-pub fn narrow(n: u64) -> u32 {
-    if n <= 4294967295 {
-        n as u32
-    } else {
-        4294967295
+impl<'a> Iterator for Tokens<'a> {
+    type Item = Token;
+
+    ghost remaining = { λ s. at_most (length s.0.now) };
+
+    fn next(&mut self) -> Option<Token> {
+        if self.0.is_empty() {
+            return None;
+        }
+        let text = self.0.split(|b| *b == b' ').next()?;
+        self.0 = self.0.get(text.len() + 1..).unwrap_or(&[]);
+        Some(Token::read(text))
     }
 }

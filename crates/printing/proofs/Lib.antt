@@ -1,2 +1,0 @@
--- A lemma that belongs to no one function.
-mod Levels

@@ -1,0 +1,2 @@
+-- What the conversions of the rows are held to.
+pub mod Words
