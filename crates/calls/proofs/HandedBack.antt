@@ -2,7 +2,9 @@
 use mathlib.Core.Path.{◌≡◌, ap, sym, ◌∙◌}
 use mathlib.Core.Bool.{true, false}
 use lib.Dec.{eqb}
-use Rattle.refusals.specs.Numbers.{number_of}
+use Rattle.std.specs.Prelude.{Result, Ok, Err, is_ok}
+use Rattle.units.proofs.Booleans.{both_ways}
+use Rattle.refusals.specs.Numbers.{refusal_number}
 use Rattle.refusals.specs.declared.refusal.Refusal.{Refusal}
 use Rattle.refusals.proofs.Numbers.{some_number}
 use Rattle.rules.specs.Accepted.{accept, closes_at}
@@ -26,15 +28,16 @@ module _ (lent : Lent) (call : EvaluatedCall) where
   unfolding next
   next_refused out = rw out
 
-  pub accepted_back : 0 ≡ lent_refusal lent call
+  pub accepted_back : {T : Type 0} (refused : Result T Refusal) → is_ok refused ≡ true → refusal_number refused ≡ lent_refusal lent call
       → (after : Lent) → after ≡ on_accepted call lent
-      → (reply : Reply) → reply ≡ shown 0 after
+      → (reply : Reply) → reply ≡ shown (refusal_number refused) after
       → record { lent = after; reply = reply } ≡ answer_to lent call
-  accepted_back none after a reply r =
-      rw (r, a, next_accepted (ap (λ n. eqb n 0) (sym none)), ← none)
+  accepted_back (Ok accepted) ok none after a reply r = rw (r, a, next_accepted (ap (λ n. eqb n 0) (sym none)), ← none)
+  accepted_back (Err refusal) ok none after a reply r = both_ways (sym ok)
 
-  pub refused_back : (refusal : Refusal) → number_of refusal ≡ lent_refusal lent call
-      → (reply : Reply) → reply ≡ shown (number_of refusal) lent
-      → record { lent = lent; reply = reply } ≡ answer_to lent call
-  refused_back refusal is reply r =
-      rw (r, next_refused (ap (λ n. eqb n 0) (sym is) ∙ some_number refusal), is)
+  pub refused_back : {T : Type 0} (refused : Result T Refusal) → is_ok refused ≡ false → refusal_number refused ≡ lent_refusal lent call
+      → (after : Lent) → after ≡ lent
+      → (reply : Reply) → reply ≡ shown (refusal_number refused) after
+      → record { lent = after; reply = reply } ≡ answer_to lent call
+  refused_back (Ok accepted) err is after a reply r = both_ways err
+  refused_back (Err refusal) err is after a reply r = rw (r, a, next_refused (ap (λ n. eqb n 0) (sym is) ∙ some_number refusal), is)

@@ -12,17 +12,10 @@ use events::Call;
 pub(crate) fn answer(c: Controller, call: Call) -> Answer
     ensures { handed_back result.reply result.controller ≡ answer_to (view c) (as_call call) }
 {
-    match refused::refusal(c, call) {
-        Ok(()) => {
-            let after = c.accepted(call);
-            Answer {
-                controller: after,
-                reply: shown::reply(after, 0),
-            }
-        }
-        Err(refusal) => Answer {
-            controller: c,
-            reply: shown::reply(c, refusal.number()),
-        },
+    let refused = refused::refusal(c, call);
+    let after = if refused.is_ok() { c.accepted(call) } else { c };
+    Answer {
+        controller: after,
+        reply: shown::reply(after, refused),
     }
 }

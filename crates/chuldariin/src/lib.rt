@@ -1,13 +1,24 @@
 #![tactic(auto)]
 // The calls as the host makes them: each is lent the controller, runs the call by value, and stores what it hands back.
+ghost use Rattle.std.specs.Prelude.{◌≡◌};
 ghost use Rattle.rules.specs.Calls.{sample, limit, measure, link, fault, clear, tick};
 ghost use Rattle.rules.specs.Lines.{on_line1};
 ghost use Rattle.claim.specs.Lent.{AnswersLent, BeginsLent};
 
+use calls::Answer;
 use controller::Controller;
 use parts::replies::Reply;
 
 pub mod duties; // duties.rt: duty and current, without a controller
+
+// The lent controller becomes what the call by value hands back, and the host gets the reply.
+fn store(c: &mut Controller, answer: Answer) -> Reply
+    ensures controller { c.new ≡ answer.controller }
+    ensures reply { result ≡ answer.reply }
+{
+    *c = answer.controller;
+    answer.reply
+}
 
 // Starts afresh with these settings; a pause of 0 stands for 10,000 ms. Refused, it leaves the lent controller as it is, and the
 // reply has zeros beside the number.
@@ -22,9 +33,10 @@ pub extern "C" fn chuldariin_begin(
 ) -> Reply
     ensures { BeginsLent (record { time = time; rated = rated; pause = pause; ventilation = ventilation; digital = digital }) c.entry result c.exit }
 {
-    let s = calls::begin(*c, time, rated, pause, ventilation, digital);
-    *c = s.controller;
-    s.reply
+    store(
+        c,
+        calls::begin(*c, time, rated, pause, ventilation, digital),
+    )
 }
 
 // A window of readings of the control pilot, in millivolts.
@@ -32,9 +44,7 @@ pub extern "C" fn chuldariin_begin(
 pub extern "C" fn chuldariin_sample(c: &mut Controller, time: u64, window: &[i32]) -> Reply
     ensures { AnswersLent (record { time = time; event = sample window.now }) c.entry result c.exit }
 {
-    let s = calls::sample(*c, time, window);
-    *c = s.controller;
-    s.reply
+    store(c, calls::sample(*c, time, window))
 }
 
 // The depot's limit, in milliamps.
@@ -42,9 +52,7 @@ pub extern "C" fn chuldariin_sample(c: &mut Controller, time: u64, window: &[i32
 pub extern "C" fn chuldariin_limit(c: &mut Controller, time: u64, current: u32) -> Reply
     ensures { AnswersLent (record { time = time; event = limit current }) c.entry result c.exit }
 {
-    let s = calls::limit(*c, time, current);
-    *c = s.controller;
-    s.reply
+    store(c, calls::limit(*c, time, current))
 }
 
 // The current on each line, in milliamps.
@@ -58,9 +66,7 @@ pub extern "C" fn chuldariin_measure_lines(
 ) -> Reply
     ensures { AnswersLent (record { time = time; event = measure (record { line1 = line1; line2 = line2; line3 = line3 }) }) c.entry result c.exit }
 {
-    let s = calls::measure_lines(*c, time, line1, line2, line3);
-    *c = s.controller;
-    s.reply
+    store(c, calls::measure_lines(*c, time, line1, line2, line3))
 }
 
 // One current, in milliamps: on line 1, and 0 on the others.
@@ -68,9 +74,7 @@ pub extern "C" fn chuldariin_measure_lines(
 pub extern "C" fn chuldariin_measure(c: &mut Controller, time: u64, current: u32) -> Reply
     ensures { AnswersLent (record { time = time; event = measure (on_line1 current) }) c.entry result c.exit }
 {
-    let s = calls::measure(*c, time, current);
-    *c = s.controller;
-    s.reply
+    store(c, calls::measure(*c, time, current))
 }
 
 // The current granted by link, in milliamps; refused by a plain post.
@@ -78,9 +82,7 @@ pub extern "C" fn chuldariin_measure(c: &mut Controller, time: u64, current: u32
 pub extern "C" fn chuldariin_link(c: &mut Controller, time: u64, granted: u32) -> Reply
     ensures { AnswersLent (record { time = time; event = link granted }) c.entry result c.exit }
 {
-    let s = calls::link(*c, time, granted);
-    *c = s.controller;
-    s.reply
+    store(c, calls::link(*c, time, granted))
 }
 
 // A fault from outside: 3 residual current, 4 welded contact, 5 over-temperature.
@@ -88,9 +90,7 @@ pub extern "C" fn chuldariin_link(c: &mut Controller, time: u64, granted: u32) -
 pub extern "C" fn chuldariin_fault(c: &mut Controller, time: u64, kind: u32) -> Reply
     ensures { AnswersLent (record { time = time; event = fault kind }) c.entry result c.exit }
 {
-    let s = calls::fault(*c, time, kind);
-    *c = s.controller;
-    s.reply
+    store(c, calls::fault(*c, time, kind))
 }
 
 // The faults are over.
@@ -98,9 +98,7 @@ pub extern "C" fn chuldariin_fault(c: &mut Controller, time: u64, kind: u32) -> 
 pub extern "C" fn chuldariin_clear(c: &mut Controller, time: u64) -> Reply
     ensures { AnswersLent (record { time = time; event = clear }) c.entry result c.exit }
 {
-    let s = calls::clear(*c, time);
-    *c = s.controller;
-    s.reply
+    store(c, calls::clear(*c, time))
 }
 
 // Nothing but the time.
@@ -108,7 +106,5 @@ pub extern "C" fn chuldariin_clear(c: &mut Controller, time: u64) -> Reply
 pub extern "C" fn chuldariin_tick(c: &mut Controller, time: u64) -> Reply
     ensures { AnswersLent (record { time = time; event = tick }) c.entry result c.exit }
 {
-    let s = calls::tick(*c, time);
-    *c = s.controller;
-    s.reply
+    store(c, calls::tick(*c, time))
 }

@@ -1,14 +1,20 @@
 -- What the calls ensure, put together (proofs/HandedBack.antt).
-use mathlib.Core.Path.{◌∙◌, ap}
-use Rattle.rules.specs.Reply.{shown}
+use mathlib.Core.Path.{◌∙◌, sym, ap}
 use Rattle.controller.specs.View.{view, as_call}
 use Rattle.calls.proofs.HandedBack.{accepted_back, refused_back}
 use Rattle.calls.proofs.answered.answer.Goals as goal
+use Rattle.calls.proofs.answered.answer.Goals.{then-is_ok, else-is_ok}
 
-pub returns-in-Ok : goal.returns-in-Ok
-returns-in-Ok c = accepted_back (view c.args.c) (as_call c.args.call) c.in-Ok.ensures _ c.accepted-after.ensures _ c.reply.ensures
-
-pub returns-in-Err : goal.returns-in-Err
-returns-in-Err c =
-    refused_back (view c.args.c) (as_call c.args.call) c.in-Err.refusal c.in-Err.ensures
-    _ (c.reply-in-Err.ensures ∙ ap (λ n. shown n (view c.args.c)) c.number.ensures)
+pub returns : goal.returns
+returns c =
+    let lent = view c.args.c in
+    let call = as_call c.args.call in
+    let refused = c.refusal-refused in
+    elim c.if-is_ok.branch [
+      | then-is_ok w ↦
+          accepted_back lent call refused.result (sym c.is_ok.ensures.value ∙ w.if-is_ok.true) refused.ensures
+          _ (ap view w.after-is ∙ w.accepted-after.ensures) _ c.reply.ensures
+      | else-is_ok w ↦
+          refused_back lent call refused.result (sym c.is_ok.ensures.value ∙ w.if-is_ok.false) refused.ensures
+          _ (ap view w.after-is) _ c.reply.ensures
+    ]
