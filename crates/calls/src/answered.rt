@@ -2,7 +2,7 @@
 ghost use Rattle.std.specs.Prelude.{◌≡◌};
 ghost use Rattle.rules.specs.Answer.{answer_to};
 ghost use Rattle.calls.specs.Answers.{handed_back};
-ghost use Rattle.controller.specs.View.{view, as_call};
+ghost use Rattle.controller.specs.View.{view, evaluated_at};
 
 use crate::{Answer, refused, shown};
 use controller::Controller;
@@ -10,7 +10,7 @@ use events::Call;
 
 // Accepted, the next controller and what is shown of it; refused, this one and its own, beside the number.
 pub(crate) fn answer(c: Controller, call: Call) -> Answer
-    ensures { handed_back result.reply result.controller ≡ answer_to (view c) (as_call call) }
+    ensures { handed_back result.reply result.controller ≡ answer_to (view c) (evaluated_at call.time call.event) }
 {
     let refused = refused::refusal(c, call);
     let after = if refused.is_ok() { c.accepted(call) } else { c };

@@ -1,7 +1,7 @@
 // What a call is refused for when it is lent this controller.
 ghost use Rattle.std.specs.Prelude.{◌≡◌};
 ghost use Rattle.rules.specs.Altered.{times_allowed, in_range, altered, lent_refusal};
-ghost use Rattle.controller.specs.View.{state_of, view, as_call};
+ghost use Rattle.controller.specs.View.{state_of, view, evaluated_at};
 ghost use Rattle.refusals.specs.Numbers.{refusal_number};
 
 use controller::Controller;
@@ -43,7 +43,7 @@ pub(crate) fn altered(c: Controller) -> bool
 // 3, then 2, then 1, then those for the arguments.
 #[tactic(auto, unfolding(rules::specs::Altered::lent_refusal))]
 pub(crate) fn refusal(c: Controller, call: Call) -> Result<(), Refusal>
-    ensures { refusal_number result ≡ lent_refusal (view c) (as_call call) }
+    ensures { refusal_number result ≡ lent_refusal (view c) (evaluated_at call.time call.event) }
 {
     refusals::time_refusal(c.last, call.time)?;
     if altered(c) {

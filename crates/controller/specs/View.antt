@@ -1,13 +1,14 @@
 -- What the controller stands for in the definitions of crate rules: each field for itself, so that an equation about the view
 -- fixes the whole controller.
 use Rattle.std.specs.Prelude.{Bool, ℕ}
+use Rattle.units.specs.declared.Millis.{Millis}
 use Rattle.rules.specs.Accepted.{accept, closes_at}
 use Rattle.rules.specs.Calls.{EvaluatedCall}
 use Rattle.rules.specs.Altered.{Lent}
 use Rattle.rules.specs.Pairs.{Pair}
 use Rattle.rules.specs.State.{State}
 use Rattle.rules.specs.Step5Closing.{closes, step_closing}
-use Rattle.events.specs.declared.Call.{Call}
+use Rattle.events.specs.declared.Event.{Event}
 use Rattle.parts.specs.Counted.{counted}
 use Rattle.parts.specs.Views.{as_moment, as_previous, as_settings, as_lines}
 use Rattle.faults.specs.Views.{as_faults}
@@ -53,5 +54,5 @@ on_accepted call lent =
     record { state = accept lent.state call; closings = counted (closes_at lent.state call) lent.closings }
 
 -- a call of the code: its time, kind and arguments
-abbrev pub as_call : Call → EvaluatedCall
-as_call call = record { time = call.time.0; event = as_event call.event }
+abbrev pub evaluated_at : Millis → Event → EvaluatedCall
+evaluated_at time event = record { time = time.0; event = as_event event }

@@ -3,7 +3,7 @@ ghost use Rattle.std.specs.Prelude.{◌≡◌};
 ghost use Rattle.rules.specs.Pairs.{pair_of};
 ghost use Rattle.parts.specs.Views.{as_pair};
 ghost use Rattle.events.specs.Views.{as_event};
-ghost use Rattle.controller.specs.View.{state_of, view, on_accepted, as_call};
+ghost use Rattle.controller.specs.View.{state_of, view, on_accepted, evaluated_at};
 
 use crate::Controller;
 use crate::steps::Accepted;
@@ -24,7 +24,7 @@ impl Controller {
 
     // The controller after a call that is accepted.
     pub fn accepted(self, call: Call) -> Controller
-        ensures { view result ≡ on_accepted (as_call call) (view self) }
+        ensures { view result ≡ on_accepted (evaluated_at call.time call.event) (view self) }
     {
         let accepted = Accepted {
             time: call.time,

@@ -1,6 +1,6 @@
 -- What the calls ensure, put together (proofs/HandedBack.antt).
 use mathlib.Core.Path.{◌∙◌, sym, ap}
-use Rattle.controller.specs.View.{view, as_call}
+use Rattle.controller.specs.View.{view, evaluated_at}
 use Rattle.calls.proofs.HandedBack.{accepted_back, refused_back}
 use Rattle.calls.proofs.answered.answer.Goals as goal
 use Rattle.calls.proofs.answered.answer.Goals.{then-is_ok, else-is_ok}
@@ -8,7 +8,7 @@ use Rattle.calls.proofs.answered.answer.Goals.{then-is_ok, else-is_ok}
 pub returns : goal.returns
 returns c =
     let lent = view c.args.c in
-    let call = as_call c.args.call in
+    let call = evaluated_at c.args.call.time c.args.call.event in
     let refused = c.refusal-refused in
     elim c.if-is_ok.branch [
       | then-is_ok w ↦
