@@ -2,6 +2,8 @@
 // The controllers that the rows of crate figures lend and keep. It makes no call.
 ghost use Rattle.std.specs.Prelude.{◌≡◌, ◌≢◌, Some, None};
 ghost use Rattle.tables.specs.declared.rows.Row.TheVariants.{Keep, Kept};
+ghost use Rattle.controller.specs.View.{view};
+ghost use Rattle.controller.specs.Zeroed.{zeroed};
 
 use controller::Controller;
 use parts::moments::Moment;
@@ -41,7 +43,11 @@ pub struct Post {
 }
 
 impl Post {
-    pub fn zeroed() -> Post {
+    // Before the first row.
+    pub fn zeroed() -> Post
+        ensures controller { view result.controller ≡ zeroed }
+        ensures kept { view result.kept ≡ zeroed }
+    {
         let none = Controller::zeroed();
         Post {
             controller: none,

@@ -1,7 +1,7 @@
 #![tactic(auto)]
 // The rows of crate figures as text: words, numbers and levels, read line by line. It calls nothing of the controller.
 pub mod numbers; // numbers below 0 or not, and what is made of them
-pub mod readings; // the readings of a window
+mod readings; // the readings of a window
 pub mod rows; // one line as a row
-pub mod text; // the tokens of a line
+mod text; // the tokens of a line
 pub mod words; // the words of a row

@@ -6,7 +6,7 @@ const SIZES: u64 = 1_000_000_000_000_000;
 
 // A number of up to 15 digits, below 0 or not.
 #[derive(Clone, Copy, PartialEq, Eq)]
-pub struct Number {
+pub(crate) struct Number {
     pub below_zero: bool,
     pub size: u64,
     ghost bounded: { size < 1000000000000000 },
@@ -29,7 +29,7 @@ impl Number {
     }
 
     // The number that the bytes write: 0 where there are none.
-    pub fn read(text: &[u8]) -> Option<Number> {
+    pub(crate) fn read(text: &[u8]) -> Option<Number> {
         let zero = Number {
             below_zero: false,
             size: 0,
@@ -38,7 +38,7 @@ impl Number {
     }
 
     // As the value of a token. One below 0 has all sizes added to its own.
-    pub fn value(self) -> u64 {
+    pub(crate) fn value(self) -> u64 {
         if self.below_zero {
             SIZES + self.size
         } else {

@@ -90,7 +90,7 @@ impl Token {
     }
 
     // The word that the last eight letters spell. The bytes of a number can spell one, too.
-    pub fn word(self) -> Option<Word> {
+    pub(crate) fn word(self) -> Option<Word> {
         let letters = self.value.to_be_bytes();
         let zeros = self.value.leading_zeros() / 8;
         Word::try_from(&letters[zeros as usize..]).ok()
