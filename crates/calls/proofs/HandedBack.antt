@@ -1,9 +1,8 @@
 -- A call's answer from its parts. An accepted call was lent a count in range, so that 32 bits hold the next one.
 use mathlib.Core.Path.{◌≡◌, ap, sym, ◌∙◌}
-use mathlib.Core.Bool.{true, false}
+use mathlib.Core.Bool.{true, false, cond}
 use lib.Dec.{eqb}
 use Rattle.std.specs.Prelude.{Result, Ok, Err, is_ok}
-use Rattle.units.proofs.Booleans.{both_ways}
 use Rattle.refusals.specs.Numbers.{refusal_number}
 use Rattle.refusals.specs.declared.refusal.Refusal.{Refusal}
 use Rattle.refusals.proofs.Numbers.{some_number}
@@ -28,16 +27,9 @@ module _ (lent : Lent) (call : EvaluatedCall) where
   unfolding next
   next_refused out = rw out
 
-  pub accepted_back : {T : Type 0} (refused : Result T Refusal) → is_ok refused ≡ true → refusal_number refused ≡ lent_refusal lent call
-      → (after : Lent) → after ≡ on_accepted call lent
+  pub handed_back : {T : Type 0} (refused : Result T Refusal) → refusal_number refused ≡ lent_refusal lent call
+      → (after : Lent) → after ≡ cond (is_ok refused) (on_accepted call lent) lent
       → (reply : Reply) → reply ≡ shown (refusal_number refused) after
       → record { lent = after; reply = reply } ≡ answer_to lent call
-  accepted_back (Ok accepted) ok none after a reply r = rw (r, a, next_accepted (ap (λ n. eqb n 0) (sym none)), ← none)
-  accepted_back (Err refusal) ok none after a reply r = both_ways (sym ok)
-
-  pub refused_back : {T : Type 0} (refused : Result T Refusal) → is_ok refused ≡ false → refusal_number refused ≡ lent_refusal lent call
-      → (after : Lent) → after ≡ lent
-      → (reply : Reply) → reply ≡ shown (refusal_number refused) after
-      → record { lent = after; reply = reply } ≡ answer_to lent call
-  refused_back (Ok accepted) err is after a reply r = both_ways err
-  refused_back (Err refusal) err is after a reply r = rw (r, a, next_refused (ap (λ n. eqb n 0) (sym is) ∙ some_number refusal), is)
+  handed_back (Ok accepted) none after a reply r = rw (r, a, next_accepted (ap (λ n. eqb n 0) (sym none)), ← none)
+  handed_back (Err refusal) is after a reply r = rw (r, a, next_refused (ap (λ n. eqb n 0) (sym is) ∙ some_number refusal), is)

@@ -13,7 +13,7 @@ pub(crate) fn answer(c: Controller, call: Call) -> Answer
     ensures { handed_back result.reply result.controller ≡ answer_to (view c) (evaluated_at call.time call.event) }
 {
     let refused = refused::refusal(c, call);
-    let after = if refused.is_ok() { c.accepted(call) } else { c };
+    let after = c.after(refused.is_ok(), call);
     Answer {
         controller: after,
         reply: shown::reply(after, refused),
