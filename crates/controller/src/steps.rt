@@ -60,29 +60,23 @@ impl Controller {
     }
 
     // Step 1: its event.
-    pub(crate) fn event(self, call: Accepted) -> Controller
+    pub(crate) fn event(mut self, call: Accepted) -> Controller
         ensures { view result ≡ on_state (step_event call.time.0 (as_event call.event) (as_pair call.pair)) (view self) }
     {
         let Accepted { time, event, pair } = call;
-        let settled = events::settled_by(pair, self.settled);
-        let grant = events::grant_by(event, settled, self.grant);
         let bound = Bound {
             digital: self.settings.digital,
             least: self.least(),
             wave: self.wave,
         };
-        let overrun = events::overrun_by(time, event, self.judges(), bound, self.overrun);
-        let lines = events::lines_by(event, self.lines);
-        Controller {
-            limit: events::limit_by(event, self.limit),
-            grant,
-            settled,
-            faults: events::faults_by(event, self.faults),
-            sound: events::sound_by(time, pair, self.sound),
-            overrun,
-            lines,
-            ..self
-        }
+        self.overrun = events::overrun_by(time, event, self.judges(), bound, self.overrun);
+        self.limit = events::limit_by(event, self.limit);
+        self.settled = events::settled_by(pair, self.settled);
+        self.grant = events::grant_by(event, self.settled, self.grant);
+        self.faults = events::faults_by(event, self.faults);
+        self.sound = events::sound_by(time, pair, self.sound);
+        self.lines = events::lines_by(event, self.lines);
+        self
     }
 
     // The over-run began, or restarted, 5,000 or longer ago.
@@ -103,19 +97,15 @@ impl Controller {
 
     // Step 2: latches.
     #[tactic(auto, unfolding(rules::specs::Step2Latches::latched))]
-    pub(crate) fn latch(self, call: Accepted) -> Controller
+    pub(crate) fn latch(mut self, call: Accepted) -> Controller
         ensures { view result ≡ on_state (step_latch (is_fault (as_event call.event)) call.time.0 (as_pair call.pair)) (view self) }
     {
         let unsettles = self.unsettles(call);
-        let diode = call.pair.both_diode_bad();
         let over = self.over_current(call.time);
-        let previous = units::pick(unsettles, samples::forgotten(), self.previous);
-        Controller {
-            settled: units::pick(unsettles, 0, self.settled),
-            faults: self.faults.with_latches(diode, over),
-            previous,
-            ..self
-        }
+        self.settled = units::pick(unsettles, 0, self.settled);
+        self.faults = self.faults.with_latches(call.pair.both_diode_bad(), over);
+        self.previous = units::pick(unsettles, samples::forgotten(), self.previous);
+        self
     }
 
     // The wave is held at steady +12 V: no duty by the plain rules, or a digital post closed with a grant below 6,000.
@@ -129,7 +119,7 @@ impl Controller {
 
     // Step 3: the wave, and what follows from it for the over-run and the stop.
     #[tactic(auto, unfolding(rules::specs::Step3Wave::wave_for))]
-    pub(crate) fn wave(self, time: Millis) -> Controller
+    pub(crate) fn wave(mut self, time: Millis) -> Controller
         ensures { view result ≡ on_state (step_wave time.0) (view self) }
     {
         let digital = self.settings.digital;
@@ -144,12 +134,10 @@ impl Controller {
             old: self.wave,
             wave,
         };
-        Controller {
-            wave,
-            overrun: change.overrun_under(time, self.overrun),
-            stop: change.stop_under(time, self.closed, self.stop),
-            ..self
-        }
+        self.wave = wave;
+        self.overrun = change.overrun_under(time, self.overrun);
+        self.stop = change.stop_under(time, self.closed, self.stop);
+        self
     }
 
     // An opening cause holds: i, ii, iii, iv or v.
@@ -173,18 +161,16 @@ impl Controller {
     }
 
     // Step 4: opening.
-    pub(crate) fn opening(self, call: Accepted) -> Controller
+    pub(crate) fn opening(mut self, call: Accepted) -> Controller
         ensures { view result ≡ on_state (step_opening call.time.0 (as_pair call.pair)) (view self) }
     {
         let opens = self.opens(call);
-        Controller {
-            closed: self.closed && !opens,
-            opening: units::pick(opens, Moment::set_to(call.time), self.opening),
-            overrun: units::pick(opens, Moment::empty(), self.overrun),
-            stop: units::pick(opens, Moment::empty(), self.stop),
-            previous: units::pick(opens, samples::forgotten(), self.previous),
-            ..self
-        }
+        self.closed = self.closed && !opens;
+        self.opening = units::pick(opens, Moment::set_to(call.time), self.opening);
+        self.overrun = units::pick(opens, Moment::empty(), self.overrun);
+        self.stop = units::pick(opens, Moment::empty(), self.stop);
+        self.previous = units::pick(opens, samples::forgotten(), self.previous);
+        self
     }
 
     // Every closing condition is met.
@@ -203,28 +189,23 @@ impl Controller {
     }
 
     // Step 5: closing.
-    pub(crate) fn closing(self, opened: bool, call: Accepted) -> Controller
+    pub(crate) fn closing(mut self, opened: bool, call: Accepted) -> Controller
         ensures { view result ≡ on_closing opened call.time.0 (as_pair call.pair) (view self) }
     {
         let closes = self.closes(opened, call);
-        let closed = self.closed || closes;
-        Controller {
-            closed,
-            closings: counts::counted(closes, self.closings),
-            ..self
-        }
+        self.closed = self.closed || closes;
+        self.closings = counts::counted(closes, self.closings);
+        self
     }
 
     // The end of a call: its time stays, and so does its sample, unless the call forgot.
-    pub(crate) fn end(self, forgot: bool, call: Accepted) -> Controller
+    pub(crate) fn end(mut self, forgot: bool, call: Accepted) -> Controller
         ensures { view result ≡ on_state (step_end forgot call.time.0 (as_pair call.pair)) (view self) }
     {
         let keeps = call.pair.sampled && !forgot;
         let this = samples::kept_sample(call.pair.this);
-        Controller {
-            last: call.time,
-            previous: units::pick(keeps, this, self.previous),
-            ..self
-        }
+        self.last = call.time;
+        self.previous = units::pick(keeps, this, self.previous);
+        self
     }
 }

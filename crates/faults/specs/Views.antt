@@ -1,4 +1,5 @@
 -- What the structs of this crate stand for in the definitions of crate rules.
+use Rattle.std.specs.Prelude.{List, [], ◌∷◌, ℕ}
 use Rattle.rules.specs.Faults as faults
 use Rattle.faults.specs.declared.Fault.{Fault}
 use Rattle.faults.specs.declared.Fault.TheVariants.{Diode, Overcurrent, Residual, Welded, Temperature}
@@ -22,3 +23,7 @@ as_faults f =
       welded = f.welded;
       temperature = f.temperature;
     }
+
+-- the places, by the faults' numbers
+abbrev pub places : faults.Faults → List ℕ
+places f = f.diode ∷ f.overcurrent ∷ f.residual ∷ f.welded ∷ f.temperature ∷ []

@@ -1,11 +1,11 @@
 #![tactic(auto)]
 // The latched faults, in the order in which they were latched.
 ghost use Rattle.std.specs.Prelude.{◌≡◌};
-ghost use Rattle.rules.specs.Faults.{number_of, no_faults, place_of, is_place, any_fault, how_many, count_of, put_at, latch, latch_if, lowest, first_of};
+ghost use Rattle.rules.specs.Faults.{no_faults, place_of, any_fault, how_many, put_at, latch, latch_if, first_of};
 ghost use Rattle.rules.specs.Step1Event.{with_kind};
 ghost use Rattle.rules.specs.Step2Latches.{with_latches};
 ghost use Rattle.faults.specs.Told.{told};
-ghost use Rattle.faults.specs.Views.{as_fault, as_faults};
+ghost use Rattle.faults.specs.Views.{as_fault, as_faults, places};
 
 // The faults, by their numbers 1 to 5.
 #[derive(Clone, Copy, PartialEq, Eq)]
@@ -68,14 +68,27 @@ impl Faults {
         self != Faults::none()
     }
 
+    // The places, by the faults' numbers.
+    fn places(self) -> [u8; 5]
+        ensures { result ≡ places (as_faults self) }
+    {
+        [
+            self.diode,
+            self.overcurrent,
+            self.residual,
+            self.welded,
+            self.temperature,
+        ]
+    }
+
     // How many are latched.
-    #[tactic(auto, unfolding(rules::specs::Faults::how_many))]
     fn how_many(self) -> u8
         ensures { result ≡ how_many (as_faults self) }
     {
-        count_of(self.diode)
-            + (count_of(self.overcurrent)
-                + (count_of(self.residual) + (count_of(self.welded) + count_of(self.temperature))))
+        self.places()
+            .iter()
+            .map(|place| u8::from(*place != 0))
+            .sum()
     }
 
     fn place_of(self, fault: Fault) -> u8
@@ -144,50 +157,13 @@ impl Faults {
         one.latch_if(overcurrent, Fault::Overcurrent)
     }
 
-    // Some latched fault, here the lowest; 0 if none is.
-    #[tactic(auto, unfolding(rules::specs::Faults::lowest))]
-    fn lowest(self) -> u8
-        ensures { result ≡ lowest (as_faults self) }
-    {
-        if self.diode != 0 {
-            1
-        } else if self.overcurrent != 0 {
-            2
-        } else if self.residual != 0 {
-            3
-        } else if self.welded != 0 {
-            4
-        } else if self.temperature != 0 {
-            5
-        } else {
-            0
-        }
-    }
-
-    // The first of the order; some latched fault where the first place is empty, and 0 if none is latched (DECISIONS, 102).
-    #[tactic(auto, unfolding(rules::specs::Faults::first_of))]
+    // The first of the order; some latched fault, here the lowest, where the first place is empty, and 0 if none is latched (DECISIONS, 102).
     pub fn first(self) -> u8
         ensures { result ≡ first_of (as_faults self) }
     {
-        if self.diode == 1 {
-            1
-        } else if self.overcurrent == 1 {
-            2
-        } else if self.residual == 1 {
-            3
-        } else if self.welded == 1 {
-            4
-        } else if self.temperature == 1 {
-            5
-        } else {
-            self.lowest()
-        }
+        let places = self.places();
+        let first = places.iter().position(|place| *place == 1);
+        let lowest = places.iter().position(|place| *place != 0);
+        first.or(lowest).map_or(0, |index| index as u8 + 1)
     }
-}
-
-// 1 for a latched fault, else 0.
-fn count_of(place: u8) -> u8
-    ensures { result ≡ count_of place }
-{
-    if place != 0 { 1 } else { 0 }
 }

@@ -7,7 +7,8 @@ use native.Mathlib.Omega.{arith}
 use lib.IntN.{ℤ, pos}
 use lib.ListN.{length, get_or, drop}
 use Rattle.std.proofs.lemmas.List.{drop_more, drop_all}
-use Rattle.window.specs.Support.{near, supporters, needed}
+use borrow.Author.Tests.{le-leb, lt-leb}
+use Rattle.window.specs.Support.{near, supporters, needed, supported}
 
 -- a window asks for a supporter
 pub some_needed : (n : ℕ) → 0 < needed n
@@ -27,4 +28,15 @@ module _ (x : ℤ) (window : List ℤ) (i : ℕ) where
   unfolding supporters
   none_left all = rw (drop_all i window all)
 
-pub ruleset counting = (some_needed, close_next, apart_next, none_left)
+  module _ (count wanted : ℕ) (asked : wanted ≡ needed (length window)) (counted : count + supporters x (drop i window) ≡ supporters x window) where
+    -- the count is left at the needed number of supporters
+    pub enough : i < length window → near x (get_or window i (pos 0)) ≡ true → count + 1 ≡ wanted → supported window x ≡ true
+    unfolding supported
+    enough h close reached = le-leb (needed (length window)) (supporters x window) (omega (arith, close_next h close))
+
+    -- the whole window was counted
+    pub too_few : length window ≤ i → count < wanted → supported window x ≡ false
+    unfolding supported
+    too_few all few = lt-leb (needed (length window)) (supporters x window) (omega (arith, none_left all))
+
+pub ruleset counting = (some_needed, close_next, apart_next, enough, too_few)

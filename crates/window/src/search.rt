@@ -4,7 +4,7 @@ ghost use Rattle.window.specs.Evaluation.{supported_levels};
 ghost use Rattle.window.specs.Search.{inside, widen};
 ghost use Rattle.window.specs.Numbers.{as_found};
 
-use crate::support::is_supported;
+use crate::support::{near, needed};
 use units::{Levels, Millivolts, Quantity};
 
 // A level lies within the levels found so far.
@@ -34,18 +34,27 @@ fn widened(found: Option<Levels>, level: Millivolts) -> Levels
 
 // The levels of the supported readings. A reading that lies within the levels found so far changes nothing, and is not counted
 // (DECISIONS, 10).
-#[tactic(auto, using(crate::proofs::Gathering::gathering))]
+#[tactic(auto, using(crate::proofs::Gathering::gathering, crate::proofs::Counting::counting))]
 pub fn levels(window: &[i32]) -> Option<Levels>
     ensures { as_found result ≡ supported_levels window.now }
 {
+    let wanted = needed(window.len());
     let mut found = None;
     for reading in window {
         let level = Millivolts(*reading);
         if inside(found, level) {
             continue;
         }
-        if is_supported(window, level) {
-            found = Some(widened(found, level));
+        let mut count: usize = 0;
+        'count: for other in window {
+            if near(level, Millivolts(*other)) {
+                count += 1;
+                // No further supporter can change the answer.
+                if count == wanted {
+                    found = Some(widened(found, level));
+                    break 'count;
+                }
+            }
         }
     }
     found
