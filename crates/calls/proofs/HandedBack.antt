@@ -1,9 +1,8 @@
 -- A call's answer from its parts. An accepted call was lent a count in range, so that 32 bits hold the next one.
 use mathlib.Core.Path.{◌≡◌, ap, sym, ◌∙◌}
-use mathlib.Core.Bool.{true, false, cond}
+use mathlib.Core.Bool.{true, false}
 use lib.Dec.{eqb}
-use Rattle.std.specs.Prelude.{Result, Ok, Err, is_ok}
-use Rattle.refusals.specs.Numbers.{refusal_number}
+use Rattle.refusals.specs.Numbers.{number_of}
 use Rattle.refusals.specs.declared.refusal.Refusal.{Refusal}
 use Rattle.refusals.proofs.Numbers.{some_number}
 use Rattle.rules.specs.Accepted.{accept, closes_at}
@@ -27,9 +26,15 @@ module _ (lent : Lent) (call : EvaluatedCall) where
   unfolding next
   next_refused out = rw out
 
-  pub handed_back : {T : Type 0} (refused : Result T Refusal) → refusal_number refused ≡ lent_refusal lent call
-      → (after : Lent) → after ≡ cond (is_ok refused) (on_accepted call lent) lent
-      → (reply : Reply) → reply ≡ shown (refusal_number refused) after
+  pub accepted_back : 0 ≡ lent_refusal lent call
+      → (after : Lent) → after ≡ on_accepted call lent
+      → (reply : Reply) → reply ≡ shown 0 after
       → record { lent = after; reply = reply } ≡ answer_to lent call
-  handed_back (Ok accepted) none after a reply r = rw (r, a, next_accepted (ap (λ n. eqb n 0) (sym none)), ← none)
-  handed_back (Err refusal) is after a reply r = rw (r, a, next_refused (ap (λ n. eqb n 0) (sym is) ∙ some_number refusal), is)
+  accepted_back none after a reply r =
+      rw (r, a, next_accepted (ap (λ n. eqb n 0) (sym none)), ← none)
+
+  pub refused_back : (refusal : Refusal) → number_of refusal ≡ lent_refusal lent call
+      → (reply : Reply) → reply ≡ shown (number_of refusal) lent
+      → record { lent = lent; reply = reply } ≡ answer_to lent call
+  refused_back refusal is reply r =
+      rw (r, next_refused (ap (λ n. eqb n 0) (sym is) ∙ some_number refusal), is)

@@ -12,10 +12,17 @@ use events::Call;
 pub(crate) fn answer(c: Controller, call: Call) -> Answer
     ensures { handed_back result.reply result.controller ≡ answer_to (view c) (evaluated_at call.time call.event) }
 {
-    let refused = refused::refusal(c, call);
-    let after = c.after(refused.is_ok(), call);
-    Answer {
-        controller: after,
-        reply: shown::reply(after, refused),
+    match refused::refusal(c, call) {
+        Ok(()) => {
+            let after = c.accepted(call);
+            Answer {
+                controller: after,
+                reply: shown::reply(after, 0),
+            }
+        }
+        Err(refusal) => Answer {
+            controller: c,
+            reply: shown::reply(c, refusal.number()),
+        },
     }
 }

@@ -29,7 +29,7 @@ pub(crate) fn begin_with(c: Controller, time: Millis, given: Settings) -> Answer
             let fresh = fresh(time, given);
             Answer {
                 controller: fresh,
-                reply: shown::reply(fresh, Ok(())),
+                reply: shown::reply(fresh, 0),
             }
         }
         Err(refusal) => Answer {

@@ -28,6 +28,7 @@ pub struct Answer {
     pub reply: Reply,
 }
 
+// A call at that time, with its kind and arguments.
 fn taken(c: Controller, time: u64, event: Event) -> Answer
     ensures { handed_back result.reply result.controller ≡ answer_to (view c) (record { time = time; event = as_event event }) }
 {

@@ -1,5 +1,5 @@
 // An accepted call: the steps in their order, and what is kept at its end.
-ghost use Rattle.std.specs.Prelude.{◌≡◌, cond};
+ghost use Rattle.std.specs.Prelude.{◌≡◌};
 ghost use Rattle.rules.specs.Pairs.{pair_of};
 ghost use Rattle.parts.specs.Views.{as_pair};
 ghost use Rattle.events.specs.Views.{as_event};
@@ -22,7 +22,8 @@ impl Controller {
         }
     }
 
-    pub(crate) fn accepted(self, call: Call) -> Controller
+    // The controller after a call that is accepted.
+    pub fn accepted(self, call: Call) -> Controller
         ensures { view result ≡ on_accepted (evaluated_at call.time call.event) (view self) }
     {
         let accepted = Accepted {
@@ -36,11 +37,5 @@ impl Controller {
         let opens = after_wave.opens(accepted);
         let after_closing = after_wave.opening(accepted).closing(opens, accepted);
         after_closing.end(unsettles || opens, accepted)
-    }
-    // Unchanged unless the call is accepted.
-    pub fn after(self, accepted: bool, call: Call) -> Controller
-        ensures { view result ≡ cond accepted (on_accepted (evaluated_at call.time call.event) (view self)) (view self) }
-    {
-        if accepted { self.accepted(call) } else { self }
     }
 }

@@ -69,13 +69,20 @@ impl Controller {
             least: self.least(),
             wave: self.wave,
         };
-        self.overrun = events::overrun_by(time, event, self.judges(), bound, self.overrun);
-        self.limit = events::limit_by(event, self.limit);
-        self.settled = events::settled_by(pair, self.settled);
-        self.grant = events::grant_by(event, self.settled, self.grant);
-        self.faults = events::faults_by(event, self.faults);
-        self.sound = events::sound_by(time, pair, self.sound);
-        self.lines = events::lines_by(event, self.lines);
+        let limit = events::limit_by(event, self.limit);
+        let settled = events::settled_by(pair, self.settled);
+        let grant = events::grant_by(event, settled, self.grant);
+        let faults = events::faults_by(event, self.faults);
+        let sound = events::sound_by(time, pair, self.sound);
+        let overrun = events::overrun_by(time, event, self.judges(), bound, self.overrun);
+        let lines = events::lines_by(event, self.lines);
+        self.limit = limit;
+        self.settled = settled;
+        self.grant = grant;
+        self.faults = faults;
+        self.sound = sound;
+        self.overrun = overrun;
+        self.lines = lines;
         self
     }
 
@@ -102,9 +109,12 @@ impl Controller {
     {
         let unsettles = self.unsettles(call);
         let over = self.over_current(call.time);
-        self.settled = units::pick(unsettles, 0, self.settled);
-        self.faults = self.faults.with_latches(call.pair.both_diode_bad(), over);
-        self.previous = units::pick(unsettles, samples::forgotten(), self.previous);
+        let settled = units::pick(unsettles, 0, self.settled);
+        let faults = self.faults.with_latches(call.pair.both_diode_bad(), over);
+        let previous = units::pick(unsettles, samples::forgotten(), self.previous);
+        self.settled = settled;
+        self.faults = faults;
+        self.previous = previous;
         self
     }
 
@@ -134,9 +144,11 @@ impl Controller {
             old: self.wave,
             wave,
         };
+        let overrun = change.overrun_under(time, self.overrun);
+        let stop = change.stop_under(time, self.closed, self.stop);
         self.wave = wave;
-        self.overrun = change.overrun_under(time, self.overrun);
-        self.stop = change.stop_under(time, self.closed, self.stop);
+        self.overrun = overrun;
+        self.stop = stop;
         self
     }
 
@@ -165,11 +177,16 @@ impl Controller {
         ensures { view result ≡ on_state (step_opening call.time.0 (as_pair call.pair)) (view self) }
     {
         let opens = self.opens(call);
-        self.closed = self.closed && !opens;
-        self.opening = units::pick(opens, Moment::set_to(call.time), self.opening);
-        self.overrun = units::pick(opens, Moment::empty(), self.overrun);
-        self.stop = units::pick(opens, Moment::empty(), self.stop);
-        self.previous = units::pick(opens, samples::forgotten(), self.previous);
+        let closed = self.closed && !opens;
+        let opening = units::pick(opens, Moment::set_to(call.time), self.opening);
+        let overrun = units::pick(opens, Moment::empty(), self.overrun);
+        let stop = units::pick(opens, Moment::empty(), self.stop);
+        let previous = units::pick(opens, samples::forgotten(), self.previous);
+        self.closed = closed;
+        self.opening = opening;
+        self.overrun = overrun;
+        self.stop = stop;
+        self.previous = previous;
         self
     }
 
