@@ -131,7 +131,7 @@ impl Faults {
         }
     }
 
-    // The same, where its test comes out true.
+    // A fault latches where its test holds.
     fn latch_if(self, holds: bool, fault: Fault) -> Faults
         ensures { as_faults result ≡ latch_if holds (as_fault fault) (as_faults self) }
     {

@@ -14,7 +14,7 @@ fn samples(c: Controller, last: u64, window: &[i32]) -> Answer {
     calls::sample(held, last, window)
 }
 
-// The answer to a call; a row that is none hands back what it was lent.
+// The answer to a call; a row that is no call hands back what it was lent.
 pub fn answer(row: Option<Row>, c: Controller) -> Answer {
     match row {
         Some(

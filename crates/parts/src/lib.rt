@@ -1,5 +1,5 @@
 #![tactic(auto)]
-// The parts of the controller: the structs that it is made of, and the tests and choices of its steps on plain values.
+// The parts of the controller: the structs that it is made of, and the tests of its steps on plain values.
 pub mod counts; // the count of closings
 pub mod grants; // the current granted by link
 pub mod lines; // the current on each line

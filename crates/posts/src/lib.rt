@@ -1,36 +1,34 @@
 #![tactic(auto)]
 // The controllers that the rows of crate figures lend and keep. It makes no call.
 ghost use Rattle.std.specs.Prelude.{◌≡◌, ◌≢◌, Some, None};
-ghost use Rattle.tables.specs.declared.rows.Row.TheVariants.{Keep, Kept};
+ghost use Rattle.tables.specs.declared.rows.Row.TheVariants.{Keep, Kept, Zeroed};
 ghost use Rattle.controller.specs.View.{view};
 ghost use Rattle.controller.specs.Zeroed.{zeroed};
 
 use controller::Controller;
 use parts::moments::Moment;
 use tables::numbers::narrow;
-use tables::rows::Row;
-use tables::words::Word;
+use tables::rows::{Field, Row};
 use units::{Milliamps, Millis};
 
 // The controller with a field altered.
-fn altered(mut c: Controller, field: Word, value: u64) -> Controller {
+fn altered(mut c: Controller, field: Field, value: u64) -> Controller {
     let number = narrow(value);
     match field {
-        Word::Rated => c.settings.rated = Milliamps(number),
-        Word::Pause => c.settings.pause = Millis(value),
-        Word::Digital => c.settings.digital = value == 1,
-        Word::Limit => c.limit = Milliamps(number),
-        Word::Grant => c.grant = Milliamps(number),
-        Word::Wave => c.wave = number,
-        Word::Closings => c.closings = number,
-        Word::Line1 => c.lines.line1 = Milliamps(number),
-        Word::Line2 => c.lines.line2 = Milliamps(number),
-        Word::Line3 => c.lines.line3 = Milliamps(number),
-        Word::Sound => c.sound = Moment::set_to(Millis(value)),
-        Word::Opening => c.opening = Moment::set_to(Millis(value)),
-        Word::Overrun => c.overrun = Moment::set_to(Millis(value)),
-        Word::Stop => c.stop = Moment::set_to(Millis(value)),
-        _ => {}
+        Field::Rated => c.settings.rated = Milliamps(number),
+        Field::Pause => c.settings.pause = Millis(value),
+        Field::Digital => c.settings.digital = value == 1,
+        Field::Limit => c.limit = Milliamps(number),
+        Field::Grant => c.grant = Milliamps(number),
+        Field::Wave => c.wave = number,
+        Field::Closings => c.closings = number,
+        Field::Line1 => c.lines.line1 = Milliamps(number),
+        Field::Line2 => c.lines.line2 = Milliamps(number),
+        Field::Line3 => c.lines.line3 = Milliamps(number),
+        Field::Sound => c.sound = Moment::set_to(Millis(value)),
+        Field::Opening => c.opening = Moment::set_to(Millis(value)),
+        Field::Overrun => c.overrun = Moment::set_to(Millis(value)),
+        Field::Stop => c.stop = Moment::set_to(Millis(value)),
     }
     c
 }
@@ -55,9 +53,10 @@ impl Post {
         }
     }
 
-    // What a row is lent: the controller that the last one handed back, unless its word says otherwise.
+    // What a row is lent: the controller that the last one handed back, unless it says otherwise.
     pub fn lent(self, row: Option<Row>) -> Controller
         ensures kept { row.entry ≡ Some Kept → result ≡ self.kept }
+        ensures cleared { row.entry ≡ Some Zeroed → view result ≡ zeroed }
         ensures none { row.entry ≡ None → result ≡ self.controller }
     {
         match row {

@@ -1,7 +1,7 @@
 // Numbers: as they are read, and as a row takes them.
 ghost use Rattle.std.specs.Prelude.{◌≡◌, ◌<◌, ◌≤ℤ◌, min, pos, negsuc};
 
-// The sizes of numbers lie below this.
+// A number has up to 15 digits, so its size lies below this.
 const SIZES: u64 = 1_000_000_000_000_000;
 
 // A number of up to 15 digits, below 0 or not.
@@ -37,7 +37,7 @@ impl Number {
         text.iter().try_fold(zero, |number, b| number.with(*b))
     }
 
-    // As the value of a token. One below 0 has all sizes added to its own.
+    // As the value of a token: its size, and for one below 0 that limit added to it.
     pub(crate) fn value(self) -> u64 {
         if self.below_zero {
             SIZES + self.size

@@ -4,6 +4,25 @@ use crate::readings::window;
 use crate::text::{Kind, Token, Tokens};
 use crate::words::Word;
 
+// A field of a controller that a row alters.
+#[derive(Clone, Copy, PartialEq, Eq)]
+pub enum Field {
+    Rated,
+    Pause,
+    Digital,
+    Limit,
+    Grant,
+    Wave,
+    Closings,
+    Sound,
+    Opening,
+    Overrun,
+    Stop,
+    Line1,
+    Line2,
+    Line3,
+}
+
 // Times are in ms, currents in mA, levels in mV.
 #[derive(Clone, Copy)]
 pub enum Row<'a> {
@@ -12,7 +31,7 @@ pub enum Row<'a> {
     Kept,
     Zeroed,
     With {
-        field: Word,
+        field: Field,
         value: u64,
     },
     // Single functions.
@@ -72,14 +91,24 @@ fn is_first(token: Token, first: Word, second: Word) -> Option<bool> {
     }
 }
 
-fn is_field(word: Word) -> bool {
-    match word {
-        Word::Rated | Word::Pause | Word::Limit | Word::Wave | Word::Closings => true,
-        Word::Digital | Word::Grant => true,
-        Word::Sound | Word::Opening | Word::Overrun | Word::Stop => true,
-        Word::Line1 | Word::Line2 | Word::Line3 => true,
-        _ => false,
-    }
+fn field(word: Word) -> Option<Field> {
+    Some(match word {
+        Word::Rated => Field::Rated,
+        Word::Pause => Field::Pause,
+        Word::Digital => Field::Digital,
+        Word::Limit => Field::Limit,
+        Word::Grant => Field::Grant,
+        Word::Wave => Field::Wave,
+        Word::Closings => Field::Closings,
+        Word::Sound => Field::Sound,
+        Word::Opening => Field::Opening,
+        Word::Overrun => Field::Overrun,
+        Word::Stop => Field::Stop,
+        Word::Line1 => Field::Line1,
+        Word::Line2 => Field::Line2,
+        Word::Line3 => Field::Line3,
+        _ => return None,
+    })
 }
 
 // What stands behind the word, up to five tokens.
@@ -115,13 +144,10 @@ impl Arguments {
     }
 
     fn with(self) -> Option<Row<'static>> {
-        let field = self.a.word()?;
-        let value = self.b.value;
-        if is_field(field) {
-            Some(Row::With { field, value })
-        } else {
-            None
-        }
+        Some(Row::With {
+            field: field(self.a.word()?)?,
+            value: self.b.value,
+        })
     }
 
     // A row without a window: the word, and how many words, numbers and levels it has to have.
