@@ -91,7 +91,7 @@ fn is_first(token: Token, first: Word, second: Word) -> Option<bool> {
     }
 }
 
-fn field(word: Word) -> Option<Field> {
+fn named_field(word: Word) -> Option<Field> {
     Some(match word {
         Word::Rated => Field::Rated,
         Word::Pause => Field::Pause,
@@ -145,7 +145,7 @@ impl Arguments {
 
     fn with(self) -> Option<Row<'static>> {
         Some(Row::With {
-            field: field(self.a.word()?)?,
+            field: named_field(self.a.word()?)?,
             value: self.b.value,
         })
     }
