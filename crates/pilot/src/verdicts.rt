@@ -3,7 +3,7 @@ ghost use Rattle.std.specs.Prelude.{◌≡◌};
 ghost use Rattle.pilot.specs.Verdicts.{sound, proven, diode_bad, verdict_of};
 
 use crate::bands;
-use units::{Levels, Millivolts, Quantity};
+use units::{Levels, Millivolts};
 
 // What is kept of a sample: its band, as a letter in ASCII or 0 for none, and the three verdicts.
 #[repr(C)]
@@ -16,7 +16,7 @@ pub struct Verdict {
 }
 
 // Sound: high as a charging van holds it, with a margin; while the wave is driven, low in its band too.
-#[tactic(auto, unfolding(crate::specs::Verdicts::sound, units::specs::Range::strictly_between))]
+#[tactic(auto, unfolding(crate::specs::Verdicts::sound))]
 pub fn sound(driven: bool, levels: Levels) -> bool
     ensures { result ≡ sound driven levels.high.0 levels.low.0 }
 {

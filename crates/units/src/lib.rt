@@ -5,7 +5,7 @@ mod quantity; // quantity.rt: the order of levels, currents and times
 mod wave; // wave.rt: the wave command
 
 ghost use Rattle.std.specs.Prelude.{◌≡◌, cond};
-ghost use Rattle.units.specs.Range.{ago, longer_ago};
+ghost use Rattle.units.specs.Range.{strictly_between, ago, longer_ago};
 
 pub use quantity::Quantity;
 pub use wave::{driven, driven_in, is_five_percent};
@@ -37,6 +37,16 @@ pub fn pick<T: Copy>(first: bool, a: T, b: T) -> T
     ensures { result ≡ cond first a b }
 {
     if first { a } else { b }
+}
+
+impl Millivolts {
+    // Between two levels; the ends do not belong.
+    #[tactic(auto, unfolding(crate::specs::Range::strictly_between))]
+    pub fn strictly_between(self, from: Millivolts, to: Millivolts) -> bool
+        ensures { result ≡ strictly_between from.0 to.0 self.0 }
+    {
+        from < self && self < to
+    }
 }
 
 impl Millis {

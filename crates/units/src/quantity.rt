@@ -26,13 +26,6 @@ pub trait Quantity: Ord + Copy {
     {
         from <= self && self <= to
     }
-
-    // Between two ends, which do not belong.
-    final fn strictly_between(self, from: Self, to: Self) -> bool
-        ensures { result ≡ (below from self && below self to) }
-    {
-        from < self && self < to
-    }
 }
 
 impl Quantity for Millivolts {
