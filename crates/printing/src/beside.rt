@@ -1,4 +1,7 @@
 // Beside a row stands its answer: of a single function, or the reply to a call.
+ghost use Rattle.std.specs.Prelude.{◌≡◌, Some, false};
+ghost use Rattle.tables.specs.declared.rows.Row.TheVariants.{Keep, Kept, Zeroed};
+
 use crate::replies::Outcome;
 use duty::{AboveScale, Reading, TooLow};
 use pilot::{bands, verdicts};
@@ -57,7 +60,11 @@ pub struct Answered<'l, 'w> {
 impl Answered<'_, '_> {
     // A line that starts with a capital letter or with # and an empty one are headings. They and the rows that only say which
     // controller is lent have no answer.
-    fn has_answer(&self) -> bool {
+    pub fn has_answer(&self) -> bool
+        ensures keep { self.now.row ≡ Some Keep → result ≡ false }
+        ensures kept { self.now.row ≡ Some Kept → result ≡ false }
+        ensures cleared { self.now.row ≡ Some Zeroed → result ≡ false }
+    {
         match self.line.first() {
             None | Some(b'A'..=b'Z' | b'#') => false,
             _ => !matches!(
