@@ -1,0 +1,19 @@
+-- The call is the lent call of its call by value (`lending/proofs/LentCall`): what crate calls proves of that one, taken to the lent controller.
+use mathlib.Core.List.{[], ◌∷◌}
+use mathlib.Core.Path.{refl}
+use mir.Syntax.{w32, w64}
+use Rattle.rules.specs.Calls.{limit}
+use Rattle.calls.specs.Answers.{Answers}
+use Rattle.calls.proofs.limit.Symbol as symbol
+use Rattle.calls.proofs.limit.Met as met
+use Rattle.lending.proofs.Parameters.{number}
+use Rattle.lending.proofs.LentCall.{lent_call_meets}
+use Rattle.chuldariin.proofs.Crossing.{lent, replied, answers}
+use Rattle.chuldariin.specs.contracts.chuldariin_limit.Key as key
+use Rattle.chuldariin.proofs.chuldariin_limit.Statement as stated
+use Rattle.chuldariin.proofs.chuldariin_limit.Code as code
+
+pub is_lent : {M : Type 1} → stated.statement M
+is_lent 𝓤 𝓛 𝓜 𝓡 wired =
+    lent_call_meets lent replied answers 0 (number w64 ∷ number w32 ∷ []) (λ c a. Answers (record { time = a.0; event = limit a.1.0 }) c) 𝓛 𝓜 𝓡
+    𝓡.env symbol.name (𝓡.env symbol.name) refl key.name (code.unfolded 𝓤 𝓛.H 𝓜 𝓡 wired) (met.met 𝓤 𝓛 𝓜 𝓡 (code.calls-calls::limit 𝓡.env wired))
