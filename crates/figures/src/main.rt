@@ -3,6 +3,8 @@
 // each is written as it stands, with the answer beside it, and what is written is held to the file stdout.
 mod lend;
 
+ghost use Rattle.std.specs.Prelude.{◌≤◌, IfOk, length};
+
 use posts::Post;
 use printing::beside::Answered;
 use printing::replies::Outcome;
@@ -12,6 +14,22 @@ use tables::rows;
 
 // How many bytes of rows are read.
 const LIMIT: usize = 65_536;
+
+// Reads until the space is full or the input ends, and answers how many bytes it put at the start of the space. Each read is offered
+// all that is left of the space: of a message that is longer than what is offered, the rest is lost.
+fn read_full<R: Read>(input: &mut R, space: &mut [u8]) -> io::Result<usize>
+    ensures { IfOk result (λ n. n ≤ length space.new) }
+{
+    let mut done = 0;
+    while done < space.len() {
+        let n = input.read(&mut space[done..])?;
+        if n == 0 {
+            break;
+        }
+        done += n;
+    }
+    Ok(done)
+}
 
 // One line: a row is lent the controller that the one before it handed back.
 fn turn<W: Write>(out: &mut W, post: Post, line: &[u8]) -> io::Result<Post> {
@@ -37,13 +55,10 @@ fn run<W: Write>(out: &mut W, text: &[u8]) -> io::Result<()> {
 
 fn main(rt: HostRuntime) -> io::Result<()> {
     let mut space = [0; LIMIT];
-    let n = io::copy(
-        &mut rt.stdin().take(LIMIT as u64),
-        &mut space.as_mut_slice(),
-    )?;
+    let n = read_full(&mut rt.stdin(), &mut space)?;
     let mut out = rt.stdout();
-    run(&mut out, space.get(..n as usize).unwrap_or(&space))?;
-    if n == LIMIT as u64 {
+    run(&mut out, &space[..n])?;
+    if n == LIMIT {
         write!(out, "THE ROWS ARE TOO LONG")?;
     }
     Ok(())

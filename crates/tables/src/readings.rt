@@ -9,7 +9,7 @@ pub fn window<'a>(space: &'a mut [i32], runs: Tokens) -> Option<&'a [i32]>
     ensures some { IfSome result (λ w. 0 < length w.now) }
     ensures within { IfSome result (λ w. length w.now ≤ length space.old) }
 {
-    if runs.count() > 40 {
+    if runs.take(41).count() > 40 {
         return None;
     }
     let mut end = 0;

@@ -71,14 +71,30 @@ struct Form {
     levels: usize,
 }
 
+// As many tokens as the longest row has: the word, a time and 40 runs.
+const LONGEST: usize = 42;
+
 impl Form {
-    fn of(tokens: Tokens) -> Form {
-        let count = |kind| tokens.filter(|t| t.kind == kind).count();
-        Form {
-            words: count(Kind::Word),
-            numbers: count(Kind::Number),
-            levels: count(Kind::Level),
+    const NONE: Form = Form {
+        words: 0,
+        numbers: 0,
+        levels: 0,
+    };
+
+    // With one token more.
+    fn with(self, token: Token) -> Form {
+        let mut form = self;
+        match token.kind {
+            Kind::Word => form.words = self.words.saturating_add(1),
+            Kind::Number => form.numbers = self.numbers.saturating_add(1),
+            Kind::Level => form.levels = self.levels.saturating_add(1),
         }
+        form
+    }
+
+    // Of a line with more tokens than any row has, no more is read than shows that.
+    fn of(tokens: Tokens) -> Form {
+        tokens.take(LONGEST + 1).fold(Form::NONE, Form::with)
     }
 }
 
