@@ -1,5 +1,5 @@
 // An accepted call: the steps in their order, and what is kept at its end.
-ghost use Rattle.std.specs.Prelude.{◌≡◌};
+ghost use Rattle.std.specs.Prelude.{◌≡◌, cond};
 ghost use Rattle.rules.specs.Pairs.{pair_of};
 ghost use Rattle.parts.specs.Views.{as_pair};
 ghost use Rattle.events.specs.Views.{as_event};
@@ -9,6 +9,7 @@ use crate::Controller;
 use crate::steps::Accepted;
 use events::{Call, Event};
 use parts::samples::Pair;
+use units::Millis;
 
 impl Controller {
     // The call's own sample, and the previous one as the call finds it.
@@ -37,5 +38,16 @@ impl Controller {
         let opens = after_wave.opens(accepted);
         let after_closing = after_wave.opening(accepted).closing(opens, accepted);
         after_closing.end(unsettles || opens, accepted)
+    }
+
+    // Unchanged unless the call is accepted.
+    pub fn after(self, accepted: bool, time: Millis, event: Event) -> Controller
+        ensures { view result ≡ cond accepted (on_accepted (evaluated_at time event) (view self)) (view self) }
+    {
+        if accepted {
+            self.accepted(Call { time, event })
+        } else {
+            self
+        }
     }
 }
