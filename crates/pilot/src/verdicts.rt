@@ -16,7 +16,7 @@ pub struct Verdict {
 }
 
 // Sound: high as a charging van holds it, with a margin; while the wave is driven, low in its band too.
-#[tactic(auto, unfolding(crate::specs::Verdicts::sound))]
+#[tactic(auto, unfolding(crate::specs::Verdicts::sound, units::specs::Range::strictly_between, units::specs::Range::within))]
 pub fn sound(driven: bool, levels: Levels) -> bool
     ensures { result ≡ sound driven levels.high.0 levels.low.0 }
 {
@@ -27,19 +27,23 @@ pub fn sound(driven: bool, levels: Levels) -> bool
 }
 
 // Proven: a driven wave shows both a ready van and its diode.
-#[tactic(auto, unfolding(crate::specs::Verdicts::proven))]
+#[tactic(auto, unfolding(crate::specs::Verdicts::proven, crate::specs::Bands::ready, crate::specs::Bands::band_of, units::specs::Range::within))]
 pub fn proven(driven: bool, levels: Levels, ventilation: bool) -> bool
     ensures { result ≡ proven driven levels.high.0 levels.low.0 ventilation }
 {
-    driven && bands::ready(bands::band(levels.high), ventilation) && bands::in_low_band(levels.low)
+    let ready = bands::ready(bands::band(levels.high), ventilation);
+    let low = bands::in_low_band(levels.low);
+    driven && ready && low
 }
 
 // Diode-bad: a driven wave shows a van that is plugged in, and no diode.
-#[tactic(auto, unfolding(crate::specs::Verdicts::diode_bad))]
+#[tactic(auto, unfolding(crate::specs::Verdicts::diode_bad, crate::specs::Bands::is_bcd, crate::specs::Bands::band_of, units::specs::Range::within))]
 pub fn diode_bad(driven: bool, levels: Levels) -> bool
     ensures { result ≡ diode_bad driven levels.high.0 levels.low.0 }
 {
-    driven && bands::is_b_c_or_d(bands::band(levels.high)) && !bands::in_low_band(levels.low)
+    let plugged = bands::is_b_c_or_d(bands::band(levels.high));
+    let low = bands::in_low_band(levels.low);
+    driven && plugged && !low
 }
 
 // The band and the verdicts of a sample, by whether the wave commanded before it is driven.

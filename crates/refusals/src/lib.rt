@@ -2,7 +2,7 @@
 // What a call is refused for: 3, then 2, then by number, but 12 before 11.
 mod refusal; // refusal.rt: the refusals and their numbers
 
-ghost use Rattle.std.specs.Prelude.{◌≡◌};
+ghost use Rattle.std.specs.Prelude.{◌≡◌, cond};
 ghost use Rattle.rules.specs.Begin.{too_late, begin_refusal};
 ghost use Rattle.rules.specs.Altered.{count_allowed, duty_allowed, wave_allowed};
 ghost use Rattle.rules.specs.Refusals.{time_refusal, limit_allowed, argument_refusal};
@@ -45,6 +45,18 @@ pub fn limit_allowed(current: Milliamps) -> bool
     current <= Milliamps(80000)
 }
 
+// 13: a limit above 80,000.
+#[tactic(auto, unfolding(rules::specs::Refusals::limit_allowed))]
+fn limit_refusal(current: Milliamps) -> Result<(), Refusal>
+    ensures { refusal_number result ≡ cond (limit_allowed current.0) 0 13 }
+{
+    if limit_allowed(current) {
+        Ok(())
+    } else {
+        Err(Refusal::Limit)
+    }
+}
+
 // The duties that a post of this mark commands: 5 %, or 100 to 960.
 #[tactic(auto, unfolding(rules::specs::Altered::duty_allowed))]
 fn duty_allowed(digital: bool, wave: u32) -> bool
@@ -82,7 +94,7 @@ pub fn argument_refusal(digital: bool, event: Event) -> Result<(), Refusal>
             window?;
             Ok(())
         }
-        Event::Limit(current) if !limit_allowed(current) => Err(Refusal::Limit),
+        Event::Limit(current) => limit_refusal(current),
         Event::Measure(lines) if !lines.allowed() => Err(Refusal::Measure),
         Event::Link(_) if !digital => Err(Refusal::Plain),
         Event::Link(granted) if !grants::grant_allowed(granted) => Err(Refusal::Grant),

@@ -7,6 +7,7 @@ use native.Mathlib.Nat.{le_refl}
 use lib.IntN.{ℤ, pos, negsuc}
 use lib.Signed.{le_z}
 use borrow.Author.Tests.{leb-true, leb-false, le-leb}
+use Rattle.units.specs.Comparisons.{within_is}
 use Rattle.units.specs.Range.{within, higher, lower}
 use Rattle.units.proofs.Booleans.{both_ways, and_parts}
 
@@ -64,8 +65,7 @@ module _ (a b : ℤ) where
       go false = inr refl
 
 pub within_parts : (from to level : ℤ) → within from to level ≡ true → (le_z from level ≡ true) × (le_z level to ≡ true)
-unfolding within
-within_parts from to level e = and_parts (le_z from level) (le_z level to) e
+within_parts from to level e = and_parts (le_z from level) (le_z level to) (sym (within_is from to level) ∙ e)
 
 -- ranges that lie apart share no level
 pub apart : (from to from' to' level : ℤ) → le_z from' to ≡ false → within from to level ≡ true → within from' to' level ≡ false

@@ -18,7 +18,7 @@ pub fn is_five_percent(wave: u32) -> bool
 }
 
 // The wave command is driven, by the post's mark.
-#[tactic(auto, unfolding(crate::specs::Wave::driven_in))]
+#[tactic(auto, unfolding(crate::specs::Wave::driven_in, crate::specs::Wave::driven, crate::specs::Range::from_to))]
 pub fn driven_in(digital: bool, wave: u32) -> bool
     ensures { result ≡ driven_in digital wave }
 {

@@ -24,11 +24,13 @@ impl Change {
     }
 
     // A driven duty is lowered to another driven one.
-    #[tactic(auto, unfolding(rules::specs::Step3Wave::lowers_duty))]
+    #[tactic(auto, unfolding(rules::specs::Step3Wave::lowers_duty, units::specs::Wave::driven_in, units::specs::Wave::driven, units::specs::Range::from_to))]
     fn lowers_duty(self) -> bool
         ensures { result ≡ lowers_duty self.digital self.old self.wave }
     {
-        units::driven_in(self.digital, self.old) && self.is_driven() && self.wave < self.old
+        let was_driven = units::driven_in(self.digital, self.old);
+        let is_driven = self.is_driven();
+        was_driven && is_driven && self.wave < self.old
     }
 
     // A lowered duty restarts a running over-run: the van has its 5 s to follow.
@@ -54,7 +56,7 @@ impl Change {
     }
 
     // A stop starts where the contactor is closed and the wave high, and ends where the wave is driven.
-    #[tactic(auto, unfolding(rules::specs::Step3Wave::stop_under))]
+    #[tactic(auto, unfolding(rules::specs::Step3Wave::stop_under, units::specs::Wave::driven_in, units::specs::Wave::driven, units::specs::Range::from_to))]
     pub fn stop_under(self, time: Millis, closed: bool, stop: Moment) -> Moment
         ensures { as_moment result ≡ stop_under self.digital time.0 self.wave closed (as_moment stop) }
     {

@@ -30,7 +30,7 @@ module _ (x : ℤ) (window : List ℤ) (i : ℕ) where
 
   module _ (count wanted : ℕ) (asked : wanted ≡ needed (length window)) (counted : count + supporters x (drop i window) ≡ supporters x window) where
     -- the count is left at the needed number of supporters
-    pub enough : i < length window → near x (get_or window i (pos 0)) ≡ true → count + 1 ≡ wanted → supported window x ≡ true
+    pub enough : i < length window → near x (get_or window i (pos 0)) ≡ true → wanted ≤ count + 1 → supported window x ≡ true
     unfolding supported
     enough h close reached = le-leb (needed (length window)) (supporters x window) (omega (arith, close_next h close))
 

@@ -43,7 +43,7 @@ module _ (test : ℤ → Bool) where
   gather_cons found x xs = refl
 
 -- a reading within the levels leaves them as they are
-inside_keeps : (found : Evaluation) (x : ℤ) → inside found x ≡ true → widen found x ≡ found
+pub inside_keeps : (found : Evaluation) (x : ℤ) → inside found x ≡ true → widen found x ≡ found
 unfolding inside widen higher lower
 inside_keeps (levels high low) x e =
     let both = within_parts low high x e in
@@ -69,12 +69,16 @@ module _ (test : ℤ → Bool) (found : Evaluation) (window : List ℤ) (i : ℕ
   pub failed : test x ≡ false → gather test found (drop (i + 1) window) ≡ gather test found (drop i window)
   failed fails = rw (drop_more window i (pos 0) h, ← here, gather_cons, fails)
 
-  -- nor does one that the levels hold already, whether it passes or not
-  pub held : inside found x ≡ true → gather test found (drop (i + 1) window) ≡ gather test found (drop i window)
-  held within = go (test x) refl
+  -- nor does one that leaves the levels as they are, whether it passes or not
+  pub gather_kept : widen found x ≡ found → gather test found (drop (i + 1) window) ≡ gather test found (drop i window)
+  gather_kept same = go (test x) refl
     where
       go : (t : Bool) → test x ≡ t → gather test found (drop (i + 1) window) ≡ gather test found (drop i window)
-      go true passes = ap (λ (f : Evaluation). gather test f (drop (i + 1) window)) (sym (inside_keeps found x within)) ∙ passed passes
+      go true passes = ap (λ (f : Evaluation). gather test f (drop (i + 1) window)) (sym same) ∙ passed passes
       go false fails = failed fails
+
+  -- so one that the levels hold already changes nothing
+  pub held : inside found x ≡ true → gather test found (drop (i + 1) window) ≡ gather test found (drop i window)
+  held within = gather_kept (inside_keeps found x within)
 
 pub ruleset gathering = (whole, over, passed, failed, held)

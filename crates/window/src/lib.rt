@@ -7,6 +7,7 @@ mod search; // search.rt: the levels of the supported readings
 mod support; // support.rt: when a reading supports another, and how many must
 
 ghost use Rattle.std.specs.Prelude.{◌≡◌};
+ghost use Rattle.units.specs.Range.{from_to};
 ghost use Rattle.window.specs.Evaluation.{evaluate};
 ghost use Rattle.window.specs.Numbers.{as_evaluation};
 
@@ -21,12 +22,20 @@ pub enum Refused {
     Support,
 }
 
+// A window has 256 to 1,024 readings.
+#[tactic(auto, unfolding(units::specs::Range::from_to))]
+fn length_allowed(n: usize) -> bool
+    ensures { result ≡ from_to 256 1024 n }
+{
+    (256..=1024).contains(&n)
+}
+
 // The high and the low level of a window, or the refusal of it.
-#[tactic(auto, unfolding(crate::specs::Evaluation::evaluate, crate::specs::Evaluation::length_allowed, units::specs::Range::from_to))]
+#[tactic(auto, unfolding(crate::specs::Evaluation::evaluate, crate::specs::Evaluation::length_allowed))]
 pub fn evaluate(window: &[i32]) -> Result<Levels, Refused>
     ensures { as_evaluation result ≡ evaluate window.now }
 {
-    if !(256..=1024).contains(&window.len()) {
+    if !length_allowed(window.len()) {
         return Err(Refused::Length);
     }
     if !readings::all_allowed(window) {
